@@ -5,13 +5,9 @@ ghost use Rattle.std.specs.Prelude.{◌<◌};
 ghost use Rattle.asyncio.specs.Limits.{task_limit, object_limit};
 ghost use Rattle.machine.specs.Events.{stays, raises, go_on, await_coroutine, await_external_future, await_gather, exec_get_awaitable};
 ghost use Rattle.exec_poll.specs.Polls.{poll_of};
-ghost use Rattle.contract.specs.Contract.{ObjectsLength, Lengths₂And, Lengths₂And₂, LengthsAnd₂};
 ghost use Rattle.exec_await.specs.Awaits.{AwaitsKeepingPlaces, AwaitsOfObjects, AwaitsOfNothing, Awaits};
 
-use asyncio::{
-    Awaiter, CallId, CoroutineState, Error, ExternalFutureState, GatherState, HeapId, Object,
-    TASKS, TaskId, Value,
-};
+use asyncio::{Awaiter, CallId, CoroutineState, Error, ExternalFutureState, GatherState, HeapId, Object, Objects, Places, TASKS, TaskId, Tasks, Value};
 use exec_commit::tree::commit_gather_tree;
 use exec_poll::item::{Poll, await_external};
 use exec_switch::control::{Control, How};
@@ -27,8 +23,8 @@ pub struct Awaited {
 
 // A value or an error is the task's own. Otherwise it blocks on object `o`, and another runs.
 fn go_on(
-    tasks: &mut [u64],
-    objects: &mut [u64],
+    tasks: &mut Tasks,
+    objects: &mut Objects,
     ids: &mut [u16; TASKS],
     len: &mut usize,
     t: TaskId,
@@ -36,7 +32,7 @@ fn go_on(
     steps: u16,
     poll: Poll,
 ) -> Awaited
-    requires { Lengths₂And tasks.old objects.old (t.0 < task_limit) }
+    requires { t.0 < task_limit }
     ensures { AwaitsKeepingPlaces tasks objects ids len
         (λ s. go_on t.0 o.0 steps s (poll_of poll)) result }
 {
@@ -65,13 +61,13 @@ fn go_on(
 
 // A new coroutine runs inline.
 fn await_coroutine(
-    objects: &mut [u64],
+    objects: &mut Objects,
     t: TaskId,
     o: HeapId,
     function: u32,
     state: CoroutineState,
 ) -> Awaited
-    requires { ObjectsLength objects.old × (o.0 < object_limit) }
+    requires { (o.0 < object_limit) }
     ensures { AwaitsOfObjects objects
         (λ s. await_coroutine s t.0 o.0 function state) result }
 {
@@ -113,8 +109,8 @@ fn raise(t: TaskId, error: Error) -> Awaited
 
 // An external: its value, its error, or the task waits for it.
 fn await_external_future(
-    tasks: &mut [u64],
-    objects: &mut [u64],
+    tasks: &mut Tasks,
+    objects: &mut Objects,
     ids: &mut [u16; TASKS],
     len: &mut usize,
     t: TaskId,
@@ -122,7 +118,7 @@ fn await_external_future(
     call: CallId,
     state: ExternalFutureState,
 ) -> Awaited
-    requires { Lengths₂And₂ tasks.old objects.old (t.0 < task_limit) (o.0 < object_limit) }
+    requires { t.0 < task_limit × o.0 < object_limit }
     ensures { AwaitsKeepingPlaces tasks objects ids len
         (λ s. await_external_future s t.0 o.0 call state) result }
 {
@@ -132,16 +128,16 @@ fn await_external_future(
 
 // A pending gather is committed. A settled one gives what it has.
 fn await_gather_future(
-    tasks: &mut [u64],
-    objects: &mut [u64],
-    places: &mut [u64],
+    tasks: &mut Tasks,
+    objects: &mut Objects,
+    places: &mut Places,
     ids: &mut [u16; TASKS],
     len: &mut usize,
     t: TaskId,
     o: HeapId,
     state: GatherState,
 ) -> Awaited
-    requires { LengthsAnd₂ tasks.old objects.old places.old (t.0 < task_limit) (o.0 < object_limit) }
+    requires { t.0 < task_limit × o.0 < object_limit }
     ensures { Awaits tasks objects places ids len
         (λ s. await_gather s t.0 o.0 state) result }
 {
@@ -169,15 +165,15 @@ fn await_gather_future(
 
 // Task `t` awaits object `o`.
 pub fn exec_get_awaitable(
-    tasks: &mut [u64],
-    objects: &mut [u64],
-    places: &mut [u64],
+    tasks: &mut Tasks,
+    objects: &mut Objects,
+    places: &mut Places,
     ids: &mut [u16; TASKS],
     len: &mut usize,
     t: TaskId,
     o: HeapId,
 ) -> Awaited
-    requires { LengthsAnd₂ tasks.old objects.old places.old (t.0 < task_limit) (o.0 < object_limit) }
+    requires { t.0 < task_limit × o.0 < object_limit }
     ensures { Awaits tasks objects places ids len
         (λ s. exec_get_awaitable s t.0 o.0) result }
 {

@@ -7,11 +7,11 @@ ghost use Rattle.machine.specs.Commit.{gives, with_state, set_gather, open_gathe
 ghost use Rattle.exec_poll.specs.Polls.{poll_of, PollsOfObjects};
 ghost use Rattle.exec_commit.specs.Steps.{frame};
 ghost use Rattle.exec_commit.specs.Frames.{GathersFit, Unwinds};
-ghost use Rattle.contract.specs.Contract.{ObjectsLength, PlacesLength, ChangesObjects, ChangesObjectsAndPlaces};
+ghost use Rattle.contract.specs.Contract.{ChangesObjects, ChangesObjectsAndPlaces};
 
 use crate::OBJECTS;
 use crate::step::{fill_place, open_place};
-use asyncio::{Awaiter, Error, GatherState, HeapId, Object, Value};
+use asyncio::{Awaiter, Error, GatherState, HeapId, Object, Objects, Places, Value};
 use exec_poll::item::Poll;
 use scheduler_states::awaited::{as_awaited};
 
@@ -36,8 +36,8 @@ fn with_state(o: Object, state: GatherState) -> Object
 }
 
 // Gather `g` in that state.
-fn set_gather(objects: &mut [u64], g: HeapId, state: GatherState)
-    requires { ObjectsLength objects.old × (g.0 < object_limit) }
+fn set_gather(objects: &mut Objects, g: HeapId, state: GatherState)
+    requires { (g.0 < object_limit) }
     ensures { ChangesObjects objects (λ s. set_gather s g.0 state) }
 {
     let o = rows::tables::load_object(objects, g);
@@ -46,8 +46,8 @@ fn set_gather(objects: &mut [u64], g: HeapId, state: GatherState)
 }
 
 // Gather `g` is awaited, with no place open yet.
-pub(crate) fn open_gather_commit(objects: &mut [u64], g: HeapId, awaiter: Awaiter)
-    requires { ObjectsLength objects.old × (g.0 < object_limit) }
+pub(crate) fn open_gather_commit(objects: &mut Objects, g: HeapId, awaiter: Awaiter)
+    requires { (g.0 < object_limit) }
     ensures { ChangesObjects objects (λ s. open_gather_commit s g.0 awaiter) }
 {
     set_gather(
@@ -61,8 +61,8 @@ pub(crate) fn open_gather_commit(objects: &mut [u64], g: HeapId, awaiter: Awaite
 }
 
 // Gather `g`, whose items are all stepped: completed where no place is open, the empty gather included.
-pub(crate) fn settle_gather_commit(objects: &mut [u64], g: HeapId) -> Poll
-    requires { ObjectsLength objects.old × (g.0 < object_limit) }
+pub(crate) fn settle_gather_commit(objects: &mut Objects, g: HeapId) -> Poll
+    requires { (g.0 < object_limit) }
     ensures { PollsOfObjects objects (λ s. settle_gather_commit s g.0) result }
 {
     let a = as_awaited(objects, g);
@@ -80,14 +80,13 @@ pub(crate) fn settle_gather_commit(objects: &mut [u64], g: HeapId) -> Poll
 
 // The nested gather in place `next` of gather `g` was settled: the place is filled or open.
 pub(crate) fn resume_after_child(
-    objects: &mut [u64],
-    places: &mut [u64],
+    objects: &mut Objects,
+    places: &mut Places,
     g: HeapId,
     next: usize,
     poll: Poll,
 )
-    requires { ObjectsLength objects.old × PlacesLength places.old × (g.0 < object_limit)
-        × (next < count_of (object_at objects.old g.0)) }
+    requires { (g.0 < object_limit) × (next < count_of (object_at objects.old g.0)) }
     ensures { ChangesObjectsAndPlaces objects places
         (λ s. resume_after_child (frame g.0 next) (gives s (poll_of poll))) }
 {
@@ -104,14 +103,13 @@ pub(crate) fn resume_after_child(
 
 // An error marks every gather of the commit failed, the innermost first: `g`, then the `depth` gathers below it.
 pub(crate) fn unwind_gather_commits(
-    objects: &mut [u64],
+    objects: &mut Objects,
     g: HeapId,
     gathers: [u16; OBJECTS],
     depth: usize,
     error: Error,
 )
-    requires { ObjectsLength objects.old × (g.0 < object_limit)
-        × (depth ≤ object_limit) × GathersFit gathers depth }
+    requires { (g.0 < object_limit) × (depth ≤ object_limit) × GathersFit gathers depth }
     ensures { Unwinds objects g.0 gathers depth error }
 {
     set_gather(objects, g, GatherState::Failed(error));

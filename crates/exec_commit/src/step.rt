@@ -7,9 +7,9 @@ ghost use Rattle.machine.specs.Commit.{open_place, fill_place, put_polled, step_
 ghost use Rattle.scheduler_states.specs.Awaited.{awaited_gather_of};
 ghost use Rattle.exec_poll.specs.Polls.{poll_of};
 ghost use Rattle.exec_commit.specs.Steps.{with_bit, step_at, frame, StepsPlace, StepsTo, StopsAt};
-ghost use Rattle.contract.specs.Contract.{ObjectsLength, PlacesLength, LengthsAnd, LengthsAnd₂, ChangesObjects, ChangesPlaces};
+ghost use Rattle.contract.specs.Contract.{ChangesObjects, ChangesPlaces};
 
-use asyncio::{Error, GatherState, HeapId, Object, Place, TASKS, Value};
+use asyncio::{Error, GatherState, HeapId, Object, Objects, Place, Places, TASKS, Tasks, Value};
 use exec_poll::item::{ItemPoll, Poll, item};
 use scheduler_states::awaited::{AwaitedGather, as_awaited};
 
@@ -42,8 +42,8 @@ fn with_bit(open_places: u32, i: usize) -> u32
 }
 
 // Place `i` of gather `g`, which is `w`, is open.
-pub(crate) fn open_place(objects: &mut [u64], g: HeapId, w: AwaitedGather, i: usize)
-    requires { ObjectsLength objects.old × (g.0 < object_limit) × (i < item_limit) }
+pub(crate) fn open_place(objects: &mut Objects, g: HeapId, w: AwaitedGather, i: usize)
+    requires { (g.0 < object_limit) × (i < item_limit) }
     ensures { ChangesObjects objects (λ s. open_place s g.0 (awaited_gather_of w) i) }
 {
     let awaiter = w.awaiter;
@@ -63,8 +63,8 @@ pub(crate) fn open_place(objects: &mut [u64], g: HeapId, w: AwaitedGather, i: us
 }
 
 // Place `i` of the gather `w` has a value.
-pub(crate) fn fill_place(places: &mut [u64], w: AwaitedGather, i: usize, value: Value)
-    requires { PlacesLength places.old × (w.first + i < place_limit) }
+pub(crate) fn fill_place(places: &mut Places, w: AwaitedGather, i: usize, value: Value)
+    requires { (w.first + i < place_limit) }
     ensures { ChangesPlaces places (λ s. fill_place s (awaited_gather_of w) i value) }
 {
     let p = w.first as usize + i;
@@ -81,15 +81,14 @@ pub(crate) fn fill_place(places: &mut [u64], w: AwaitedGather, i: usize, value: 
 
 // What the item of place `i` gave is put there; an error stops the walk.
 fn put_polled(
-    objects: &mut [u64],
-    places: &mut [u64],
+    objects: &mut Objects,
+    places: &mut Places,
     g: HeapId,
     w: AwaitedGather,
     i: usize,
     poll: Poll,
 ) -> ItemStep
-    requires { ObjectsLength objects.old × PlacesLength places.old × (g.0 < object_limit)
-        × (i < item_limit) × (w.first + i < place_limit) }
+    requires { (g.0 < object_limit) × (i < item_limit) × (w.first + i < place_limit) }
     ensures { StepsPlace objects places i
         (λ s go. put_polled g.0 (awaited_gather_of w) i s (poll_of poll) go) result }
 {
@@ -108,15 +107,15 @@ fn put_polled(
 
 // The item in place `i` of gather `g`.
 fn step_item(
-    tasks: &mut [u64],
-    objects: &mut [u64],
-    places: &mut [u64],
+    tasks: &mut Tasks,
+    objects: &mut Objects,
+    places: &mut Places,
     ids: &mut [u16; TASKS],
     len: &mut usize,
     g: HeapId,
     i: usize,
 ) -> ItemStep
-    requires { LengthsAnd₂ tasks.old objects.old places.old (g.0 < object_limit) (i < count_of (object_at objects.old g.0)) }
+    requires { g.0 < object_limit × i < count_of (object_at objects.old g.0) }
     ensures { StepsTo tasks objects places ids len i
         (λ s go. step_at s g.0 i go) result }
 {
@@ -136,15 +135,15 @@ fn step_item(
 
 // The items of gather `g` from place `next` on, left to right, up to the end, a nested gather that must be committed first, or an error.
 pub(crate) fn step_gather_commit(
-    tasks: &mut [u64],
-    objects: &mut [u64],
-    places: &mut [u64],
+    tasks: &mut Tasks,
+    objects: &mut Objects,
+    places: &mut Places,
     ids: &mut [u16; TASKS],
     len: &mut usize,
     g: HeapId,
     next: u16,
 ) -> Stop
-    requires { LengthsAnd tasks.old objects.old places.old (g.0 < object_limit) }
+    requires { g.0 < object_limit }
     ensures { StopsAt tasks objects places ids len
         (λ s. step_gather_commit s (frame g.0 next)) result }
 {

@@ -2,7 +2,6 @@
 ghost use Rattle.std.specs.Prelude.{◌<◌};
 ghost use Rattle.asyncio.specs.Limits.{object_limit};
 ghost use Rattle.machine.specs.Commit.{commit_gather_tree};
-ghost use Rattle.contract.specs.Contract.{LengthsAnd};
 ghost use Rattle.exec_commit.specs.Frames.{Commits};
 
 use crate::OBJECTS;
@@ -10,7 +9,7 @@ use crate::settle::{
     open_gather_commit, resume_after_child, settle_gather_commit, unwind_gather_commits,
 };
 use crate::step::{Stop, step_gather_commit};
-use asyncio::{Awaiter, HeapId, TASKS};
+use asyncio::{Awaiter, HeapId, Objects, Places, TASKS, Tasks};
 use exec_poll::item::Poll;
 
 // What the await sees after a commit, and the number of commit steps.
@@ -23,15 +22,15 @@ pub struct Committed {
 // Gather `root`, for its awaiter, and every gather nested in it. A frame is a gather and its place that is stepped next: the innermost
 // is in `g` and `next`, those below it in the arrays. A frame goes there when a pending gather is opened, so that one for each object is enough.
 pub fn commit_gather_tree(
-    tasks: &mut [u64],
-    objects: &mut [u64],
-    places: &mut [u64],
+    tasks: &mut Tasks,
+    objects: &mut Objects,
+    places: &mut Places,
     ids: &mut [u16; TASKS],
     len: &mut usize,
     root: HeapId,
     awaiter: Awaiter,
 ) -> Committed
-    requires { LengthsAnd tasks.old objects.old places.old (root.0 < object_limit) }
+    requires { root.0 < object_limit }
     ensures { Commits tasks objects places ids len
         (λ s. commit_gather_tree s root.0 awaiter) result }
 {

@@ -1,22 +1,21 @@
 // Up the gathers: deliver_awaiter_success, deliver_awaiter_failure.
 ghost use Rattle.asyncio.specs.Ranges.{AwaiterFits};
 ghost use Rattle.machine.specs.Delivery.{deliver_awaiter_success, deliver_awaiter_failure};
-ghost use Rattle.contract.specs.Contract.{Lengths₂And, LengthsAnd};
 ghost use Rattle.exec_deliver.specs.Delivers.{Delivers, DeliversKeepingPlaces};
 
 use crate::task::deliver_to_task;
-use asyncio::{Awaiter, Error, TaskId, TaskState, Value};
+use asyncio::{Awaiter, Error, Objects, Places, TaskId, TaskState, Tasks, Value};
 use exec_fill::gather::{fail, resolve_child};
 
 // Success climbs through each gather that it completes, and wakes the blocked task at the end: the task that was woken, whom the caller queues.
 pub fn deliver_awaiter_success(
-    tasks: &mut [u64],
-    objects: &mut [u64],
-    places: &mut [u64],
+    tasks: &mut Tasks,
+    objects: &mut Objects,
+    places: &mut Places,
     awaiter: Awaiter,
     value: Value,
 ) -> Option<TaskId>
-    requires { LengthsAnd tasks.old objects.old places.old (AwaiterFits awaiter) }
+    requires { AwaiterFits awaiter }
     ensures { Delivers tasks objects places
         (λ s. deliver_awaiter_success s awaiter value) result }
 {
@@ -42,12 +41,12 @@ pub fn deliver_awaiter_success(
 
 // Failure marks each awaited gather failed, climbs, and the blocked task at the end will raise it: the task that was woken, whom the caller queues.
 pub fn deliver_awaiter_failure(
-    tasks: &mut [u64],
-    objects: &mut [u64],
+    tasks: &mut Tasks,
+    objects: &mut Objects,
     awaiter: Awaiter,
     error: Error,
 ) -> Option<TaskId>
-    requires { Lengths₂And tasks.old objects.old (AwaiterFits awaiter) }
+    requires { AwaiterFits awaiter }
     ensures { DeliversKeepingPlaces tasks objects
         (λ s. deliver_awaiter_failure s awaiter error) result }
 {

@@ -4,10 +4,9 @@ ghost use Rattle.asyncio.specs.Limits.{object_limit};
 ghost use Rattle.machine.specs.Delivery.{value_or, resolve_future, fail_future};
 ghost use Rattle.exec_deliver.specs.Futures.{resolve_at, fail_at};
 ghost use Rattle.exec_deliver.specs.Delivers.{Wakes, WakesKeepingPlaces};
-ghost use Rattle.contract.specs.Contract.{Lengths₂, Lengths, Lengths₂And, LengthsAnd};
 
 use crate::climb::{deliver_awaiter_failure, deliver_awaiter_success};
-use asyncio::{Error, ExternalFutureState, HeapId, Object, TaskId, Value};
+use asyncio::{Error, ExternalFutureState, HeapId, Object, Objects, Places, TaskId, Tasks, Value};
 use scheduler::tasks::{take_pending_external};
 
 // A stored result replaces the host's value.
@@ -22,13 +21,13 @@ fn value_or(stored: Option<Value>, value: Value) -> Value
 
 // Object `o`, if it is a pending external, is resolved, and its awaiter served: the task that was woken.
 fn resolve_at(
-    tasks: &mut [u64],
-    objects: &mut [u64],
-    places: &mut [u64],
+    tasks: &mut Tasks,
+    objects: &mut Objects,
+    places: &mut Places,
     o: HeapId,
     value: Value,
 ) -> Option<TaskId>
-    requires { LengthsAnd tasks.old objects.old places.old (o.0 < object_limit) }
+    requires { o.0 < object_limit }
     ensures { Wakes tasks objects places (λ s. resolve_at s o.0 value) result }
 {
     let x = rows::tables::load_object(objects, o);
@@ -64,13 +63,12 @@ fn resolve_at(
 
 // The task that the call's end woke, whom the caller queues. A call that is not pending is ignored.
 pub fn resolve_future(
-    tasks: &mut [u64],
-    objects: &mut [u64],
-    places: &mut [u64],
+    tasks: &mut Tasks,
+    objects: &mut Objects,
+    places: &mut Places,
     call: u32,
     value: Value,
 ) -> Option<TaskId>
-    requires { Lengths tasks.old objects.old places.old }
     ensures { Wakes tasks objects places
         (λ s. resolve_future s call value) result }
 {
@@ -82,8 +80,8 @@ pub fn resolve_future(
 }
 
 // Object `o`, if it is a pending external, has failed, and its awaiter is served: the task that was woken. A stored result is dropped.
-fn fail_at(tasks: &mut [u64], objects: &mut [u64], o: HeapId, error: Error) -> Option<TaskId>
-    requires { Lengths₂And tasks.old objects.old (o.0 < object_limit) }
+fn fail_at(tasks: &mut Tasks, objects: &mut Objects, o: HeapId, error: Error) -> Option<TaskId>
+    requires { o.0 < object_limit }
     ensures { WakesKeepingPlaces tasks objects
         (λ s. fail_at s o.0 error) result }
 {
@@ -118,8 +116,7 @@ fn fail_at(tasks: &mut [u64], objects: &mut [u64], o: HeapId, error: Error) -> O
 }
 
 // The task that the call's end woke, whom the caller queues. A call that is not pending is ignored.
-pub fn fail_future(tasks: &mut [u64], objects: &mut [u64], call: u32, error: Error) -> Option<TaskId>
-    requires { Lengths₂ tasks.old objects.old }
+pub fn fail_future(tasks: &mut Tasks, objects: &mut Objects, call: u32, error: Error) -> Option<TaskId>
     ensures { WakesKeepingPlaces tasks objects
         (λ s. fail_future s call error) result }
 {

@@ -2,15 +2,15 @@
 ghost use Rattle.std.specs.Prelude.{◌≡◌, ◌<◌};
 ghost use Rattle.asyncio.specs.Limits.{task_limit};
 ghost use Rattle.machine.specs.Delivery.{deliver_to_task};
-ghost use Rattle.contract.specs.Contract.{TasksLength, queue_before, queue_after};
+ghost use Rattle.contract.specs.Contract.{queue_before, queue_after};
 ghost use Rattle.exec_deliver.specs.Delivers.{queued, DeliversOfTasks};
 
-use asyncio::{TASKS, TaskId, TaskState};
+use asyncio::{TASKS, TaskId, TaskState, Tasks};
 use queue::push_lent;
 
 // A blocked task becomes ready with a value or an error: it was woken, and the caller queues it. Any other receives nothing.
-pub(crate) fn deliver_to_task(tasks: &mut [u64], t: TaskId, state: TaskState) -> Option<TaskId>
-    requires { TasksLength tasks.old × (t.0 < task_limit) }
+pub(crate) fn deliver_to_task(tasks: &mut Tasks, t: TaskId, state: TaskState) -> Option<TaskId>
+    requires { (t.0 < task_limit) }
     ensures { DeliversOfTasks tasks (λ s. deliver_to_task s t.0 state) result }
 {
     if scheduler_states::states::is_blocked(tasks, t) {

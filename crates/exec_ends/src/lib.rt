@@ -6,11 +6,10 @@ ghost use Rattle.asyncio.specs.Limits.{task_limit, object_limit};
 ghost use Rattle.rows.specs.Tables.{object_at, object_put};
 ghost use Rattle.machine.specs.Events.{completed, handle_task_completion};
 ghost use Rattle.machine.specs.Machine.{task_completes, task_fails, resume_with_resolved_futures};
-ghost use Rattle.contract.specs.Contract.{ObjectsLength, Lengths₂, Lengths₂And, LengthsAnd};
 ghost use Rattle.exec_switch.specs.Answer.{Answers, AnswersKeepingPlaces};
 ghost use Rattle.exec_ends.specs.Ends.{Switches};
 
-use asyncio::{CoroutineState, Error, HeapId, Object, TASKS, TaskId, Value};
+use asyncio::{CoroutineState, Error, HeapId, Object, Objects, Places, TASKS, TaskId, Tasks, Value};
 use exec_deliver::climb::deliver_awaiter_success;
 use exec_deliver::task::queue_woken;
 use exec_switch::answer::{Answer, Stepped};
@@ -40,8 +39,8 @@ fn completed(x: Object) -> Object
 }
 
 // The coroutine of a task that completed.
-fn complete_coroutine(objects: &mut [u64], c: HeapId)
-    requires { ObjectsLength objects.old × (c.0 < object_limit) }
+fn complete_coroutine(objects: &mut Objects, c: HeapId)
+    requires { (c.0 < object_limit) }
     ensures { objects.new ≡ object_put objects.old c.0 (completed (object_at objects.old c.0)) }
 {
     let x = rows::tables::load_object(objects, c);
@@ -50,15 +49,15 @@ fn complete_coroutine(objects: &mut [u64], c: HeapId)
 
 // The task's coroutine is completed, the task goes, and its awaiter gets the value. The queue is lent.
 fn handle_task_completion(
-    tasks: &mut [u64],
-    objects: &mut [u64],
-    places: &mut [u64],
+    tasks: &mut Tasks,
+    objects: &mut Objects,
+    places: &mut Places,
     ids: &mut [u16; TASKS],
     len: &mut usize,
     t: TaskId,
     value: Value,
 ) -> Control
-    requires { LengthsAnd tasks.old objects.old places.old (t.0 < task_limit) }
+    requires { t.0 < task_limit }
     ensures { Switches tasks objects places ids len
         (λ s. handle_task_completion s t.0 value) result }
 {
@@ -74,14 +73,14 @@ fn handle_task_completion(
 
 // Task `t` completes. Main's end is the session's.
 pub fn complete(
-    tasks: &mut [u64],
-    objects: &mut [u64],
-    places: &mut [u64],
+    tasks: &mut Tasks,
+    objects: &mut Objects,
+    places: &mut Places,
     queue: ReadyQueue,
     t: TaskId,
     value: Value,
 ) -> Stepped
-    requires { LengthsAnd tasks.old objects.old places.old (t.0 < task_limit) }
+    requires { t.0 < task_limit }
     ensures { Answers tasks objects places queue
         (λ s. task_completes s t.0 value) result }
 {
@@ -104,13 +103,13 @@ pub fn complete(
 
 // Task `t` fails. Main's end is the session's.
 pub fn fail(
-    tasks: &mut [u64],
-    objects: &mut [u64],
+    tasks: &mut Tasks,
+    objects: &mut Objects,
     queue: ReadyQueue,
     t: TaskId,
     error: Error,
 ) -> Stepped
-    requires { Lengths₂And tasks.old objects.old (t.0 < task_limit) }
+    requires { t.0 < task_limit }
     ensures { AnswersKeepingPlaces tasks objects queue
         (λ s. task_fails s t.0 error) result }
 {
@@ -133,11 +132,10 @@ pub fn fail(
 
 // The next ready task runs on. Where none is ready nothing changes: the wait is repeated, or no call is pending.
 pub fn resume_with_resolved_futures(
-    tasks: &mut [u64],
-    objects: &mut [u64],
+    tasks: &mut Tasks,
+    objects: &mut Objects,
     queue: ReadyQueue,
 ) -> Stepped
-    requires { Lengths₂ tasks.old objects.old }
     ensures { AnswersKeepingPlaces tasks objects queue resume_with_resolved_futures result }
 {
     if queue.len == 0 {

@@ -2,21 +2,20 @@
 ghost use Rattle.std.specs.Prelude.{◌≡◌, ◌<◌, ◌+◌, ◌≤◌};
 ghost use Rattle.asyncio.specs.Limits.{item_limit, place_limit};
 ghost use Rattle.machine.specs.Delivery.{filled, fill_one, fill_from};
-ghost use Rattle.contract.specs.Contract.{PlacesLength};
 
-use asyncio::{HeapId, Place, Value};
+use asyncio::{HeapId, Place, Places, Value};
 
 // Place `p`, which is place `i` of its gather: where it is open and names `source`, the value goes in and its bit is cleared. The open
 // places that are left.
 fn fill_one(
-    places: &mut [u64],
+    places: &mut Places,
     p: usize,
     i: usize,
     open_places: u32,
     source: HeapId,
     value: Value,
 ) -> u32
-    requires { PlacesLength places.old × (p < place_limit) × (i < item_limit) }
+    requires { (p < place_limit) × (i < item_limit) }
     ensures { filled places.new result ≡ fill_one places.old open_places p i source.0 value }
 {
     if (open_places >> i) % 2 == 0 {
@@ -39,14 +38,14 @@ fn fill_one(
 
 // Every open place of a gather that names `source` is filled, and its bit cleared. The gather has the `count` places from `first` on.
 pub(crate) fn fill_places(
-    places: &mut [u64],
+    places: &mut Places,
     first: usize,
     count: usize,
     open_places: u32,
     source: HeapId,
     value: Value,
 ) -> u32
-    requires { PlacesLength places.old × (first + count ≤ place_limit) × (count ≤ item_limit) }
+    requires { (first + count ≤ place_limit) × (count ≤ item_limit) }
     ensures { filled places.new result ≡ fill_from places.old open_places first source.0 value 0 count }
 {
     let mut left = open_places;

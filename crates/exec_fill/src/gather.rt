@@ -4,17 +4,16 @@ ghost use Rattle.asyncio.specs.Limits.{object_limit};
 ghost use Rattle.asyncio.specs.declared.Object.{Object};
 ghost use Rattle.rows.specs.Tables.{object_put};
 ghost use Rattle.machine.specs.Delivery.{resolve_child, fail_gather};
-ghost use Rattle.contract.specs.Contract.{ObjectsLength, PlacesLength};
 ghost use Rattle.exec_fill.specs.Delivered.{Settles, SettlesKeepingPlaces};
 
 use crate::fill::fill_places;
-use asyncio::{Awaiter, Error, GatherState, HeapId, Object, Value};
+use asyncio::{Awaiter, Error, GatherState, HeapId, Object, Objects, Places, Value};
 use rows::tables::store_object;
 use scheduler_states::awaited::{as_awaited};
 
 // Object `g` is a gather with these places, in that state.
-fn put_gather(objects: &mut [u64], g: HeapId, first: u16, count: u16, state: GatherState)
-    requires { ObjectsLength objects.old × (g.0 < object_limit) }
+fn put_gather(objects: &mut Objects, g: HeapId, first: u16, count: u16, state: GatherState)
+    requires { (g.0 < object_limit) }
     ensures { objects.new ≡ object_put objects.old g.0 (Object.GatherFuture first count state) }
 {
     store_object(
@@ -30,13 +29,13 @@ fn put_gather(objects: &mut [u64], g: HeapId, first: u16, count: u16, state: Gat
 
 // A child's value: it completes the gather when no place is open any more. A gather that is not awaited discards it.
 pub fn resolve_child(
-    objects: &mut [u64],
-    places: &mut [u64],
+    objects: &mut Objects,
+    places: &mut Places,
     g: HeapId,
     source: HeapId,
     value: Value,
 ) -> Option<Awaiter>
-    requires { ObjectsLength objects.old × PlacesLength places.old × (g.0 < object_limit) }
+    requires { (g.0 < object_limit) }
     ensures { Settles objects places
         (λ s. resolve_child s g.0 source.0 value) result }
 {
@@ -70,8 +69,8 @@ pub fn resolve_child(
 }
 
 // The first failure of an awaited gather. One that is not awaited keeps its state.
-pub fn fail(objects: &mut [u64], g: HeapId, error: Error) -> Option<Awaiter>
-    requires { ObjectsLength objects.old × (g.0 < object_limit) }
+pub fn fail(objects: &mut Objects, g: HeapId, error: Error) -> Option<Awaiter>
+    requires { (g.0 < object_limit) }
     ensures { SettlesKeepingPlaces objects (λ s. fail_gather s g.0 error) result }
 {
     let a = as_awaited(objects, g);

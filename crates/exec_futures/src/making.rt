@@ -4,14 +4,14 @@ ghost use Rattle.asyncio.specs.Limits.{item_limit, place_limit};
 ghost use Rattle.rows.specs.Tables.{header_at};
 ghost use Rattle.machine.specs.Store.{set_calls, add_object};
 ghost use Rattle.machine.specs.Events.{make_coroutine, make_pending, make_settled, put_items, make_gather};
-ghost use Rattle.contract.specs.Contract.{ObjectsLength, PlacesLength, ChangesObjects, ChangesPlaces};
+ghost use Rattle.contract.specs.Contract.{ChangesObjects, ChangesPlaces};
 ghost use Rattle.exec_futures.specs.Making.{MakesObject, MakesGather, HasCall, HasPlaces, HasRoom};
 
-use asyncio::{Awaiter, CallId, CoroutineState, ExternalFutureState, GatherState, Header, HeapId, Object, Place, Value};
+use asyncio::{Awaiter, CallId, CoroutineState, ExternalFutureState, GatherState, Header, HeapId, Object, Objects, Place, Places, Value};
 
 // An object at the end, and `n` places given to it.
-fn add_object(objects: &mut [u64], x: Object, n: u16) -> HeapId
-    requires { ObjectsLength objects.old × HasRoom objects.old × (n ≤ item_limit) }
+fn add_object(objects: &mut Objects, x: Object, n: u16) -> HeapId
+    requires { HasRoom objects.old × (n ≤ item_limit) }
     ensures { MakesObject objects (λ s. add_object s x n) result }
 {
     let header = rows::tables::load_header(objects);
@@ -32,8 +32,8 @@ fn add_object(objects: &mut [u64], x: Object, n: u16) -> HeapId
 }
 
 // The next call's number is handed out.
-pub fn allocate_call_id(objects: &mut [u64]) -> CallId
-    requires { ObjectsLength objects.old × HasCall objects.old }
+pub fn allocate_call_id(objects: &mut Objects) -> CallId
+    requires { HasCall objects.old }
     ensures { (result.0 ≡ (header_at objects.old).calls) × ChangesObjects objects
         (λ s. set_calls s (result.0 + 1)) }
 {
@@ -54,8 +54,8 @@ pub fn allocate_call_id(objects: &mut [u64]) -> CallId
 }
 
 // A new coroutine of a function.
-pub fn make_coroutine(objects: &mut [u64], function: u32) -> HeapId
-    requires { ObjectsLength objects.old × HasRoom objects.old }
+pub fn make_coroutine(objects: &mut Objects, function: u32) -> HeapId
+    requires { HasRoom objects.old }
     ensures { MakesObject objects (λ s. make_coroutine s function) result }
 {
     let x = Object::Coroutine {
@@ -66,8 +66,8 @@ pub fn make_coroutine(objects: &mut [u64], function: u32) -> HeapId
 }
 
 // An external of a call, with a stored result or none (add_pending_call, add_pending_sleep).
-pub fn push_pending_future(objects: &mut [u64], call: CallId, stored: Option<Value>) -> HeapId
-    requires { ObjectsLength objects.old × HasRoom objects.old }
+pub fn push_pending_future(objects: &mut Objects, call: CallId, stored: Option<Value>) -> HeapId
+    requires { HasRoom objects.old }
     ensures { MakesObject objects (λ s. make_pending s call.0 stored) result }
 {
     let x = Object::ExternalFuture {
@@ -81,8 +81,8 @@ pub fn push_pending_future(objects: &mut [u64], call: CallId, stored: Option<Val
 }
 
 // An external that has its value already. It takes a call number too.
-pub fn settled_awaitable(objects: &mut [u64], value: Value) -> HeapId
-    requires { ObjectsLength objects.old × HasRoom objects.old × HasCall objects.old }
+pub fn settled_awaitable(objects: &mut Objects, value: Value) -> HeapId
+    requires { HasRoom objects.old × HasCall objects.old }
     ensures { MakesObject objects (λ s. make_settled s value) result }
 {
     let call = allocate_call_id(objects);
@@ -94,8 +94,8 @@ pub fn settled_awaitable(objects: &mut [u64], value: Value) -> HeapId
 }
 
 // The items in the places from `first` on.
-fn put_items(places: &mut [u64], first: usize, items: &[u16])
-    requires { PlacesLength places.old × (first + length items.now ≤ place_limit) }
+fn put_items(places: &mut Places, first: usize, items: &[u16])
+    requires { (first + length items.now ≤ place_limit) }
     ensures { ChangesPlaces places (λ s. put_items s first items.now) }
 {
     let n = items.len();
@@ -111,9 +111,8 @@ fn put_items(places: &mut [u64], first: usize, items: &[u16])
 }
 
 // A gather of the items, not committed.
-pub fn make_gather(objects: &mut [u64], places: &mut [u64], items: &[u16]) -> HeapId
-    requires { ObjectsLength objects.old × PlacesLength places.old × HasRoom objects.old × (length items.now ≤ item_limit)
-        × HasPlaces objects.old (length items.now) }
+pub fn make_gather(objects: &mut Objects, places: &mut Places, items: &[u16]) -> HeapId
+    requires { HasRoom objects.old × (length items.now ≤ item_limit) × HasPlaces objects.old (length items.now) }
     ensures { MakesGather objects places
         (λ s. make_gather s items.now) result }
 {

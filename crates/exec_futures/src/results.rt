@@ -3,22 +3,22 @@ ghost use Rattle.std.specs.Prelude.{◌≤◌, ◌+◌, length};
 ghost use Rattle.machine.specs.Events.{apply_result, apply_future_results, wake_in_order};
 ghost use Rattle.exec_futures.specs.Results.{result_at, results_in};
 ghost use Rattle.exec_deliver.specs.Delivers.{Wakes};
-ghost use Rattle.contract.specs.Contract.{Lengths, LengthsAnd, Changes};
+ghost use Rattle.contract.specs.Contract.{Changes};
 
 use asyncio::words::{to_error, to_value};
-use asyncio::{Error, RESULT_BYTES, TaskId};
+use asyncio::{Error, Objects, Places, RESULT_BYTES, TaskId, Tasks};
 use exec_deliver::future::{fail_future, resolve_future};
 use queue::ReadyQueue;
 
 // The result at byte `at`, applied: the task that it woke. Kinds: 0 return, 1 error, 2 still a future, 3 not found, 4 module file.
 fn apply_result(
-    tasks: &mut [u64],
-    objects: &mut [u64],
-    places: &mut [u64],
+    tasks: &mut Tasks,
+    objects: &mut Objects,
+    places: &mut Places,
     results: &[u8],
     at: usize,
 ) -> Option<TaskId>
-    requires { LengthsAnd tasks.old objects.old places.old (at + 14 ≤ length results.now) }
+    requires { at + 14 ≤ length results.now }
     ensures { Wakes tasks objects places
         (λ s. apply_result s (result_at results.now at)) result }
 {
@@ -44,13 +44,12 @@ fn apply_result(
 
 // One result after the other, read where they stand; those whom they woke go to the queue's back, behind those who stood there, lowest number first.
 pub fn apply_future_results(
-    tasks: &mut [u64],
-    objects: &mut [u64],
-    places: &mut [u64],
+    tasks: &mut Tasks,
+    objects: &mut Objects,
+    places: &mut Places,
     queue: ReadyQueue,
     results: &[u8],
 ) -> ReadyQueue
-    requires { Lengths tasks.old objects.old places.old }
     ensures { Changes tasks objects places queue result
         (λ s. wake_in_order s (apply_future_results s (results_in results.now))) }
 {

@@ -6,12 +6,8 @@ ghost use Rattle.machine.specs.Store.{Store};
 ghost use Rattle.machine.specs.Commit.{await_external, item_coroutine, item_gather};
 ghost use Rattle.scheduler_states.specs.Awaited.{awaited_gather_of};
 ghost use Rattle.exec_poll.specs.Polls.{with_item, itemed, item_at, item_here, PollsOfObjects, Polls, PollsItem, PollsItemOfPlaces};
-ghost use Rattle.contract.specs.Contract.{ObjectsLength, Lengths₂, Lengths₂And, LengthsAnd₂};
 
-use asyncio::{
-    Awaiter, CallId, CoroutineState, Error, ExternalFutureState, GatherState, HeapId, Object,
-    TASKS, Value,
-};
+use asyncio::{Awaiter, CallId, CoroutineState, Error, ExternalFutureState, GatherState, HeapId, Object, Objects, Places, TASKS, Tasks, Value};
 use scheduler_states::awaited::AwaitedGather;
 use scheduler_states::places::is_open;
 
@@ -32,13 +28,13 @@ pub enum ItemPoll {
 
 // External `o` of that call and in that state: settled, or it takes the awaiter if it has none (await_external_future).
 pub fn await_external(
-    objects: &mut [u64],
+    objects: &mut Objects,
     o: HeapId,
     call: CallId,
     state: ExternalFutureState,
     awaiter: Awaiter,
 ) -> Poll
-    requires { ObjectsLength objects.old × (o.0 < object_limit) }
+    requires { (o.0 < object_limit) }
     ensures { PollsOfObjects objects
         (λ s. await_external s o.0 call state awaiter) result }
 {
@@ -67,15 +63,14 @@ pub fn await_external(
 
 // Coroutine `o` in that state, an item of gather `g`: it is spawned, if it is new and no live task drives it.
 fn item_coroutine(
-    tasks: &mut [u64],
-    objects: &mut [u64],
+    tasks: &mut Tasks,
+    objects: &mut Objects,
     ids: &mut [u16; TASKS],
     len: &mut usize,
     g: HeapId,
     o: HeapId,
     state: CoroutineState,
 ) -> Poll
-    requires { Lengths₂ tasks.old objects.old }
     ensures { Polls tasks objects ids len
         (λ s. item_coroutine s g.0 o.0 state) result }
 {
@@ -109,14 +104,14 @@ fn item_gather(o: HeapId, state: GatherState) -> ItemPoll
 
 // Object `o` as an item of gather `g`, where no open place of it names the object.
 fn item_object(
-    tasks: &mut [u64],
-    objects: &mut [u64],
+    tasks: &mut Tasks,
+    objects: &mut Objects,
     ids: &mut [u16; TASKS],
     len: &mut usize,
     g: HeapId,
     o: HeapId,
 ) -> ItemPoll
-    requires { Lengths₂And tasks.old objects.old (o.0 < object_limit) }
+    requires { o.0 < object_limit }
     ensures { PollsItem tasks objects ids len (λ s. item_here s g.0 o.0) result }
 {
     let x = rows::tables::load_object(objects, o);
@@ -149,16 +144,16 @@ fn item_object(
 
 // Object `o` as an item of gather `g`, which is `w`. An item that is open already gets another place and no second task.
 pub fn item(
-    tasks: &mut [u64],
-    objects: &mut [u64],
-    places: &[u64],
+    tasks: &mut Tasks,
+    objects: &mut Objects,
+    places: &Places,
     ids: &mut [u16; TASKS],
     len: &mut usize,
     g: HeapId,
     w: AwaitedGather,
     o: HeapId,
 ) -> ItemPoll
-    requires { LengthsAnd₂ tasks.old objects.old places.now (PlacesFit w.first w.count) (o.0 < object_limit) }
+    requires { PlacesFit w.first w.count × o.0 < object_limit }
     ensures { PollsItemOfPlaces tasks objects places.now ids len
         (λ s. item_at s g.0 (awaited_gather_of w) o.0) result }
 {

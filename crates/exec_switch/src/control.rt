@@ -3,9 +3,8 @@ ghost use Rattle.std.specs.Prelude.{◌≡◌, ◌<◌};
 ghost use Rattle.asyncio.specs.Limits.{task_limit};
 ghost use Rattle.machine.specs.Events.{run, yield};
 ghost use Rattle.exec_switch.specs.Control.{moment_put, how_of, SwitchesKeepingLog, SwitchesOfObjects};
-ghost use Rattle.contract.specs.Contract.{ObjectsLength, Lengths₂And};
 
-use asyncio::{Error, Header, HeapId, Moment, TaskId, TaskState, Value};
+use asyncio::{Error, Header, HeapId, Moment, Objects, TaskId, TaskState, Tasks, Value};
 
 // How a task goes on: it starts a coroutine with its function, receives a value, raises an error, or runs a coroutine inline.
 #[derive(Clone, Copy)]
@@ -24,8 +23,7 @@ pub enum Control {
 }
 
 // The moment of the session.
-fn set_moment(objects: &mut [u64], moment: Moment)
-    requires { ObjectsLength objects.old }
+fn set_moment(objects: &mut Objects, moment: Moment)
     ensures { objects.new ≡ moment_put objects.old moment }
 {
     let header = rows::tables::load_header(objects);
@@ -42,8 +40,8 @@ fn set_moment(objects: &mut [u64], moment: Moment)
 }
 
 // Task `t` runs.
-pub(crate) fn run(tasks: &mut [u64], objects: &mut [u64], t: TaskId, how: How) -> Control
-    requires { Lengths₂And tasks.old objects.old (t.0 < task_limit) }
+pub(crate) fn run(tasks: &mut Tasks, objects: &mut Objects, t: TaskId, how: How) -> Control
+    requires { t.0 < task_limit }
     ensures { SwitchesKeepingLog tasks objects
         (λ s. run s t.0 (how_of how)) result }
 {
@@ -53,8 +51,7 @@ pub(crate) fn run(tasks: &mut [u64], objects: &mut [u64], t: TaskId, how: How) -
 }
 
 // The host has control.
-pub(crate) fn yield_control(objects: &mut [u64]) -> Control
-    requires { ObjectsLength objects.old }
+pub(crate) fn yield_control(objects: &mut Objects) -> Control
     ensures { SwitchesOfObjects objects yield result }
 {
     set_moment(objects, Moment::Waiting);

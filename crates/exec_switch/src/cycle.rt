@@ -6,17 +6,16 @@ ghost use Rattle.rows.specs.Tables.{object_at};
 ghost use Rattle.exec_fill.specs.Delivered.{delivered};
 ghost use Rattle.machine.specs.Events.{new_function, activate, start_task, handle_task_failure, resume_after_task_exit, resume_next};
 ghost use Rattle.exec_switch.specs.Control.{function_of, FoundFits, SwitchesKeepingPlaces};
-ghost use Rattle.contract.specs.Contract.{ObjectsLength, Lengths₂, Lengths₂And};
 
 use crate::control::{Control, How, run, yield_control};
-use asyncio::{CoroutineState, Error, HeapId, Object, TASKS, TaskId, TaskState};
+use asyncio::{CoroutineState, Error, HeapId, Object, Objects, TASKS, TaskId, TaskState, Tasks};
 use exec_deliver::climb::deliver_awaiter_failure;
 use exec_deliver::task::queue_woken;
 use queue::{front_lent, pop_lent, remove_lent};
 use scheduler_states::states::remove_task_lent;
 
-fn new_function(objects: &[u64], c: HeapId) -> Option<u32>
-    requires { ObjectsLength objects.now × (c.0 < object_limit) }
+fn new_function(objects: &Objects, c: HeapId) -> Option<u32>
+    requires { (c.0 < object_limit) }
     ensures { result ≡ function_of (new_function (object_at objects.now c.0)) }
 {
     let x = rows::tables::load_object(objects, c);
@@ -39,13 +38,13 @@ fn new_function(objects: &[u64], c: HeapId) -> Option<u32>
 // A ready task runs on with what was delivered, or starts. No other is activated.
 #[cycle(activate_task_handle_task_failure_resume_after_task_exit_start_task_switch_or_yield)]
 fn activate_task(
-    tasks: &mut [u64],
-    objects: &mut [u64],
+    tasks: &mut Tasks,
+    objects: &mut Objects,
     ids: &mut [u16; TASKS],
     len: &mut usize,
     t: TaskId,
 ) -> Control
-    requires { Lengths₂And tasks.old objects.old (t.0 < task_limit) }
+    requires { t.0 < task_limit }
     ensures { SwitchesKeepingPlaces tasks objects ids len (λ s. activate s t.0) result }
 {
     let state = rows::parts::state_at(tasks, t);
@@ -62,13 +61,13 @@ fn activate_task(
 // The first run of a task: a coroutine that is not new any more fails it.
 #[cycle(activate_task_handle_task_failure_resume_after_task_exit_start_task_switch_or_yield)]
 fn start_task(
-    tasks: &mut [u64],
-    objects: &mut [u64],
+    tasks: &mut Tasks,
+    objects: &mut Objects,
     ids: &mut [u16; TASKS],
     len: &mut usize,
     t: TaskId,
 ) -> Control
-    requires { Lengths₂And tasks.old objects.old (t.0 < task_limit) }
+    requires { t.0 < task_limit }
     ensures { SwitchesKeepingPlaces tasks objects ids len
         (λ s. start_task activate s t.0) result }
 {
@@ -108,14 +107,14 @@ fn start_task(
 // The task's awaiter gets the error, and the task goes. Its coroutine keeps its state.
 #[cycle(activate_task_handle_task_failure_resume_after_task_exit_start_task_switch_or_yield)]
 pub fn handle_task_failure(
-    tasks: &mut [u64],
-    objects: &mut [u64],
+    tasks: &mut Tasks,
+    objects: &mut Objects,
     ids: &mut [u16; TASKS],
     len: &mut usize,
     t: TaskId,
     error: Error,
 ) -> Control
-    requires { Lengths₂And tasks.old objects.old (t.0 < task_limit) }
+    requires { t.0 < task_limit }
     ensures { SwitchesKeepingPlaces tasks objects ids len
         (λ s. handle_task_failure activate s t.0 error) result }
 {
@@ -129,13 +128,13 @@ pub fn handle_task_failure(
 // The task that an exit woke goes ahead of the queue.
 #[cycle(activate_task_handle_task_failure_resume_after_task_exit_start_task_switch_or_yield)]
 pub fn resume_after_task_exit(
-    tasks: &mut [u64],
-    objects: &mut [u64],
+    tasks: &mut Tasks,
+    objects: &mut Objects,
     ids: &mut [u16; TASKS],
     len: &mut usize,
     woken: Option<TaskId>,
 ) -> Control
-    requires { Lengths₂And tasks.old objects.old (FoundFits woken) }
+    requires { FoundFits woken }
     ensures { SwitchesKeepingPlaces tasks objects ids len
         (λ s. resume_after_task_exit activate (delivered s woken)) result }
 {
@@ -151,12 +150,11 @@ pub fn resume_after_task_exit(
 // The task at the queue's front, or the host.
 #[cycle(activate_task_handle_task_failure_resume_after_task_exit_start_task_switch_or_yield)]
 pub fn switch_or_yield(
-    tasks: &mut [u64],
-    objects: &mut [u64],
+    tasks: &mut Tasks,
+    objects: &mut Objects,
     ids: &mut [u16; TASKS],
     len: &mut usize,
 ) -> Control
-    requires { Lengths₂ tasks.old objects.old }
     ensures { SwitchesKeepingPlaces tasks objects ids len
         (λ s. resume_next activate s) result }
 {

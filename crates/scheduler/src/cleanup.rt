@@ -4,14 +4,13 @@ ghost use Rattle.asyncio.specs.Limits.{task_limit};
 ghost use Rattle.machine.specs.Scheduler.{pending_calls_in};
 ghost use Rattle.machine.specs.Machine.{is_empty, can_await_eagerly};
 ghost use Rattle.scheduler.specs.Ends.{clear_one, clear_from, Cleans};
-ghost use Rattle.contract.specs.Contract.{TasksLength, ObjectsLength, Lengths₂, ReadsObjectsAndQueue};
+ghost use Rattle.contract.specs.Contract.{ReadsObjectsAndQueue};
 
-use asyncio::{Awaiter, Header, HeapId, Moment, Task, TaskId, TaskState};
+use asyncio::{Awaiter, Header, HeapId, Moment, Objects, Task, TaskId, TaskState, Tasks};
 use queue::ReadyQueue;
 
 // Is no call pending?
-pub fn no_call_pending(objects: &[u64]) -> bool
-    requires { ObjectsLength objects.now }
+pub fn no_call_pending(objects: &Objects) -> bool
     ensures { result ≡ is_empty (pending_calls_in objects.now) }
 {
     let header = rows::tables::load_header(objects);
@@ -28,8 +27,7 @@ pub fn no_call_pending(objects: &[u64]) -> bool
 }
 
 // May a call be answered at once? Nothing is ready and no call is pending; after the session's end none is.
-pub fn can_await_eagerly(objects: &[u64], queue: ReadyQueue) -> bool
-    requires { ObjectsLength objects.now }
+pub fn can_await_eagerly(objects: &Objects, queue: ReadyQueue) -> bool
     ensures { ReadsObjectsAndQueue objects.now queue can_await_eagerly result }
 {
     if queue.len == 0 {
@@ -45,8 +43,8 @@ pub fn can_await_eagerly(objects: &[u64], queue: ReadyQueue) -> bool
 }
 
 // Row `t` cleared, if it is a live task's.
-fn clear_one(tasks: &mut [u64], t: TaskId)
-    requires { TasksLength tasks.old × (t.0 < task_limit) }
+fn clear_one(tasks: &mut Tasks, t: TaskId)
+    requires { (t.0 < task_limit) }
     ensures { tasks.new ≡ clear_one tasks.old t.0 }
 {
     let state = rows::parts::state_at(tasks, t);
@@ -61,8 +59,8 @@ fn clear_one(tasks: &mut [u64], t: TaskId)
 }
 
 // The rows of the live tasks below `next` cleared.
-fn clear_tasks(tasks: &mut [u64], next: u16)
-    requires { TasksLength tasks.old × (next ≤ task_limit) }
+fn clear_tasks(tasks: &mut Tasks, next: u16)
+    requires { (next ≤ task_limit) }
     ensures { tasks.new ≡ clear_from tasks.old 0 next }
 {
     let mut t: u16 = 0;
@@ -73,8 +71,7 @@ fn clear_tasks(tasks: &mut [u64], next: u16)
 }
 
 // The session ends: no task is left, and none is ready.
-pub fn cleanup(tasks: &mut [u64], objects: &mut [u64]) -> ReadyQueue
-    requires { Lengths₂ tasks.old objects.old }
+pub fn cleanup(tasks: &mut Tasks, objects: &mut Objects) -> ReadyQueue
     ensures { Cleans tasks objects result }
 {
     let header = rows::tables::load_header(objects);

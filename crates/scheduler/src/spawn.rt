@@ -1,26 +1,25 @@
 // spawn: a task for a coroutine, one at a time.
 ghost use Rattle.std.specs.Prelude.{◌<◌};
 ghost use Rattle.asyncio.specs.Limits.{task_limit};
-ghost use Rattle.contract.specs.Contract.{Lengths₂, Lengths₂And};
 ghost use Rattle.scheduler.specs.Spawn.{SpawnsTaskAs, SpawnsTask};
 
 use crate::tasks::{task_of};
-use asyncio::{Awaiter, Header, HeapId, TASKS, Task, TaskId, TaskState};
+use asyncio::{Awaiter, Header, HeapId, Objects, TASKS, Task, TaskId, TaskState, Tasks};
 use queue::push_lent;
 
 const LIMIT: u16 = TASKS as u16;
 
 // Task `header.next` is spawned: ready and not yet run, its result goes to the places of gather `g` that name coroutine `c`.
 fn spawn_as(
-    tasks: &mut [u64],
-    objects: &mut [u64],
+    tasks: &mut Tasks,
+    objects: &mut Objects,
     ids: &mut [u16; TASKS],
     len: &mut usize,
     header: Header,
     c: HeapId,
     g: HeapId,
 )
-    requires { Lengths₂And tasks.old objects.old (header.next < task_limit) }
+    requires { header.next < task_limit }
     ensures { SpawnsTaskAs tasks objects ids len header c.0 g.0 }
 {
     let t = TaskId::new(header.next);
@@ -49,14 +48,13 @@ fn spawn_as(
 
 // Whether a task was spawned: none where the coroutine already has a live task, or no number is left. The queue is lent.
 pub fn spawn(
-    tasks: &mut [u64],
-    objects: &mut [u64],
+    tasks: &mut Tasks,
+    objects: &mut Objects,
     ids: &mut [u16; TASKS],
     len: &mut usize,
     c: HeapId,
     g: HeapId,
 ) -> bool
-    requires { Lengths₂ tasks.old objects.old }
     ensures { SpawnsTask tasks objects ids len c.0 g.0 result }
 {
     let header = rows::tables::load_header(objects);

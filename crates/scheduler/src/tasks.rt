@@ -4,13 +4,12 @@ ghost use Rattle.asyncio.specs.Limits.{task_limit, object_limit};
 ghost use Rattle.rows.specs.Tables.{task_at};
 ghost use Rattle.machine.specs.Scheduler.{is_task_of, task_of_in, is_call, pending_external_in};
 ghost use Rattle.scheduler.specs.Search.{found_task, found_object};
-ghost use Rattle.contract.specs.Contract.{TasksLength, ObjectsLength};
 
-use asyncio::{HeapId, TaskId};
+use asyncio::{HeapId, Objects, TaskId, Tasks};
 
 // Does task `t` live and drive object `c`?
-fn is_task_of(tasks: &[u64], t: TaskId, c: HeapId) -> bool
-    requires { TasksLength tasks.now × (t.0 < task_limit) }
+fn is_task_of(tasks: &Tasks, t: TaskId, c: HeapId) -> bool
+    requires { (t.0 < task_limit) }
     ensures { result ≡ is_task_of c.0 (task_at tasks.now t.0) }
 {
     let state = rows::parts::state_at(tasks, t);
@@ -22,8 +21,8 @@ fn is_task_of(tasks: &[u64], t: TaskId, c: HeapId) -> bool
 }
 
 // The live spawned task below `next` that drives object `c`.
-pub(crate) fn task_of(tasks: &[u64], next: u16, c: HeapId) -> Option<TaskId>
-    requires { TasksLength tasks.now × (next ≤ task_limit) }
+pub(crate) fn task_of(tasks: &Tasks, next: u16, c: HeapId) -> Option<TaskId>
+    requires { (next ≤ task_limit) }
     ensures { result ≡ found_task (task_of_in tasks.now next c.0) }
 {
     let mut t: u16 = 1;
@@ -38,8 +37,8 @@ pub(crate) fn task_of(tasks: &[u64], next: u16, c: HeapId) -> Option<TaskId>
 }
 
 // Is object `o` a pending external of that call?
-pub(crate) fn is_call(objects: &[u64], call: u32, o: HeapId) -> bool
-    requires { ObjectsLength objects.now × (o.0 < object_limit) }
+pub(crate) fn is_call(objects: &Objects, call: u32, o: HeapId) -> bool
+    requires { (o.0 < object_limit) }
     ensures { result ≡ is_call objects.now call o.0 }
 {
     let kind = rows::parts::kind_at(objects, o);
@@ -52,8 +51,7 @@ pub(crate) fn is_call(objects: &[u64], call: u32, o: HeapId) -> bool
 
 // The pending external of a call. It only searches: nothing is taken out, and the store stays. The number is compared whole, so that
 // call 65,536 + n is not call n.
-pub fn take_pending_external(objects: &[u64], call: u32) -> Option<HeapId>
-    requires { ObjectsLength objects.now }
+pub fn take_pending_external(objects: &Objects, call: u32) -> Option<HeapId>
     ensures { result ≡ found_object (pending_external_in objects.now call) }
 {
     let header = rows::tables::load_header(objects);

@@ -6,9 +6,9 @@ ghost use Rattle.rows.specs.Tables.{task_at, object_at};
 ghost use Rattle.machine.specs.Scheduler.{as_awaited, blocked_on, task_of_in, still_live, reach, remove_blocked, visit, visit_place, visit_open, walk_gather, cancel_task};
 ghost use Rattle.scheduler.specs.Search.{found_task, found_object};
 ghost use Rattle.scheduler_cancel.specs.Cancel.{put_task_of, tasks_of_in, awaited_places, TableLength, MarksLength, Reaches, WalksOfTasks, WalksKeepingPlaces, Walks, HasRoom};
-ghost use Rattle.contract.specs.Contract.{kept, TasksLength, ObjectsLength, PlacesLength, LengthsAnd, Changes};
+ghost use Rattle.contract.specs.Contract.{kept, Changes};
 
-use asyncio::{HeapId, TaskId, TaskState};
+use asyncio::{HeapId, Objects, Places, TaskId, TaskState, Tasks};
 use queue::ReadyQueue;
 use scheduler_states::states::remove_task;
 
@@ -17,8 +17,8 @@ const OBJECTS: usize = asyncio::OBJECTS as usize;
 // ---- which task drives a coroutine: a table of one word for each object, 0 where no task does (task 0 is main)
 
 // Task `t` is noted at its coroutine, if it lives.
-fn put_task_of(tasks: &[u64], table: &mut [u64], t: TaskId)
-    requires { TasksLength tasks.now × TableLength table.old × (t.0 < task_limit) }
+fn put_task_of(tasks: &Tasks, table: &mut [u64], t: TaskId)
+    requires { TableLength table.old × (t.0 < task_limit) }
     ensures { table.new ≡ put_task_of tasks.now t.0 table.old }
 {
     let state = rows::parts::state_at(tasks, t);
@@ -30,8 +30,8 @@ fn put_task_of(tasks: &[u64], table: &mut [u64], t: TaskId)
 }
 
 // The tasks of all coroutines, in one pass over the tasks: downward, so that the lowest number stays.
-fn find_tasks(tasks: &[u64], next: u16) -> [u64; OBJECTS]
-    requires { TasksLength tasks.now × (next ≤ task_limit) }
+fn find_tasks(tasks: &Tasks, next: u16) -> [u64; OBJECTS]
+    requires { (next ≤ task_limit) }
     ensures { (c : ℕ) → tasks_of_in result c ≡ task_of_in tasks.now next c }
 {
     let mut table = [0u64; OBJECTS];
@@ -44,8 +44,8 @@ fn find_tasks(tasks: &[u64], next: u16) -> [u64; OBJECTS]
 }
 
 // The task that drives object `o` by the table, if it still lives.
-fn live_task_of(tasks: &[u64], table: &[u64], o: HeapId) -> Option<TaskId>
-    requires { TasksLength tasks.now × TableLength table.now × (o.0 < object_limit) }
+fn live_task_of(tasks: &Tasks, table: &[u64], o: HeapId) -> Option<TaskId>
+    requires { TableLength table.now × (o.0 < object_limit) }
     ensures { result ≡ found_task (still_live tasks.now (tasks_of_in table.now o.0)) }
 {
     let i = o.0 as usize;
@@ -84,9 +84,8 @@ fn blocked_on(state: TaskState) -> Option<HeapId>
 }
 
 // Gather `g` is marked and put on the stack, if it is awaited and was not marked. The depth of the stack then.
-fn reach(objects: &[u64], marks: &mut [bool], stack: &mut [u64], depth: usize, g: HeapId) -> usize
-    requires { ObjectsLength objects.now × MarksLength marks.old × TableLength stack.old
-        × HasRoom marks.old depth × (g.0 < object_limit) }
+fn reach(objects: &Objects, marks: &mut [bool], stack: &mut [u64], depth: usize, g: HeapId) -> usize
+    requires { MarksLength marks.old × TableLength stack.old × HasRoom marks.old depth × (g.0 < object_limit) }
     ensures { Reaches (kept objects.now) marks stack depth (λ w. reach w g.0) result }
 {
     let i = g.0 as usize;
@@ -104,15 +103,14 @@ fn reach(objects: &[u64], marks: &mut [bool], stack: &mut [u64], depth: usize, g
 
 // Task `t` goes, and what it is blocked on is reached.
 fn remove_blocked(
-    tasks: &mut [u64],
-    objects: &[u64],
+    tasks: &mut Tasks,
+    objects: &Objects,
     marks: &mut [bool],
     stack: &mut [u64],
     at: Walked,
     t: TaskId,
 ) -> Walked
-    requires { TasksLength tasks.old × ObjectsLength objects.now × MarksLength marks.old × TableLength stack.old
-        × HasRoom marks.old at.depth × (t.0 < task_limit) }
+    requires { MarksLength marks.old × TableLength stack.old × HasRoom marks.old at.depth × (t.0 < task_limit) }
     ensures { WalksOfTasks tasks (kept objects.now) marks stack at
         (λ w. remove_blocked w t.0 (blocked_on (task_at tasks.old t.0).state)) result }
 {
@@ -135,16 +133,15 @@ fn remove_blocked(
 
 // Item `o`: its live task goes; without one it is reached as a nested gather.
 fn visit(
-    tasks: &mut [u64],
-    objects: &[u64],
+    tasks: &mut Tasks,
+    objects: &Objects,
     table: &[u64],
     marks: &mut [bool],
     stack: &mut [u64],
     at: Walked,
     o: HeapId,
 ) -> Walked
-    requires { TasksLength tasks.old × ObjectsLength objects.now × TableLength table.now × MarksLength marks.old × TableLength stack.old
-        × HasRoom marks.old at.depth × (o.0 < object_limit) }
+    requires { TableLength table.now × MarksLength marks.old × TableLength stack.old × HasRoom marks.old at.depth × (o.0 < object_limit) }
     ensures { WalksKeepingPlaces (kept table.now) tasks (kept objects.now) marks stack at (λ w. visit w o.0) result }
 {
     let d = live_task_of(tasks, table, o);
@@ -160,9 +157,9 @@ fn visit(
 
 // The item of place `p`, which is place `i` of its gather, if it is open.
 fn visit_place(
-    tasks: &mut [u64],
-    objects: &[u64],
-    places: &[u64],
+    tasks: &mut Tasks,
+    objects: &Objects,
+    places: &Places,
     table: &[u64],
     marks: &mut [bool],
     stack: &mut [u64],
@@ -171,8 +168,8 @@ fn visit_place(
     i: usize,
     open_places: u32,
 ) -> Walked
-    requires { TasksLength tasks.old × ObjectsLength objects.now × PlacesLength places.now × TableLength table.now × MarksLength marks.old
-        × TableLength stack.old × HasRoom marks.old at.depth × (p < place_limit) × (i < item_limit) }
+    requires { TableLength table.now × MarksLength marks.old × TableLength stack.old
+        × HasRoom marks.old at.depth × (p < place_limit) × (i < item_limit) }
     ensures { Walks (kept table.now) tasks (kept objects.now) (kept places.now) marks stack at (λ w. visit_place w p i open_places) result }
 {
     if (open_places >> i) % 2 == 0 {
@@ -184,9 +181,9 @@ fn visit_place(
 
 // The items of the open places of a gather, which has the `count` places from `first` on.
 fn visit_open(
-    tasks: &mut [u64],
-    objects: &[u64],
-    places: &[u64],
+    tasks: &mut Tasks,
+    objects: &Objects,
+    places: &Places,
     table: &[u64],
     marks: &mut [bool],
     stack: &mut [u64],
@@ -195,8 +192,8 @@ fn visit_open(
     count: usize,
     open_places: u32,
 ) -> Walked
-    requires { TasksLength tasks.old × ObjectsLength objects.now × PlacesLength places.now × TableLength table.now × MarksLength marks.old
-        × TableLength stack.old × HasRoom marks.old at.depth × (first + count ≤ place_limit) × (count ≤ item_limit) }
+    requires { TableLength table.now × MarksLength marks.old × TableLength stack.old
+        × HasRoom marks.old at.depth × (first + count ≤ place_limit) × (count ≤ item_limit) }
     ensures { (a : Awaiter) → Walks (kept table.now) tasks (kept objects.now) (kept places.now) marks stack at
         (λ w. visit_open w (awaited_places first count a open_places) 0 count) result }
 {
@@ -222,17 +219,16 @@ fn visit_open(
 
 // Gather `g`, taken off the stack: its open items are visited.
 fn walk_gather(
-    tasks: &mut [u64],
-    objects: &[u64],
-    places: &[u64],
+    tasks: &mut Tasks,
+    objects: &Objects,
+    places: &Places,
     table: &[u64],
     marks: &mut [bool],
     stack: &mut [u64],
     at: Walked,
     g: HeapId,
 ) -> Walked
-    requires { TasksLength tasks.old × ObjectsLength objects.now × PlacesLength places.now × TableLength table.now × MarksLength marks.old
-        × TableLength stack.old × HasRoom marks.old at.depth × (g.0 < object_limit) }
+    requires { TableLength table.now × MarksLength marks.old × TableLength stack.old × HasRoom marks.old at.depth × (g.0 < object_limit) }
     ensures { Walks (kept table.now) tasks (kept objects.now) (kept places.now) marks stack at
         (λ w. walk_gather w (as_awaited (object_at objects.now g.0))) result }
 {
@@ -259,13 +255,13 @@ fn walk_gather(
 
 // Task `t` goes; then each gather on the stack is walked. A gather comes there once, so that a place for each object is enough.
 pub fn cancel_task(
-    tasks: &mut [u64],
-    objects: &[u64],
-    places: &[u64],
+    tasks: &mut Tasks,
+    objects: &Objects,
+    places: &Places,
     queue: ReadyQueue,
     t: TaskId,
 ) -> ReadyQueue
-    requires { LengthsAnd tasks.old objects.now places.now (t.0 < task_limit) }
+    requires { t.0 < task_limit }
     ensures { Changes tasks (kept objects.now) (kept places.now) queue result (λ s. cancel_task s t.0) }
 {
     let header = rows::tables::load_header(objects);

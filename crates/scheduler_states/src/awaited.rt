@@ -4,9 +4,8 @@ ghost use Rattle.asyncio.specs.Limits.{object_limit};
 ghost use Rattle.rows.specs.Tables.{object_at};
 ghost use Rattle.machine.specs.Scheduler.{as_awaited};
 ghost use Rattle.scheduler_states.specs.Awaited.{option_awaited};
-ghost use Rattle.contract.specs.Contract.{ObjectsLength};
 
-use asyncio::{Awaiter, GatherState, HeapId, Object};
+use asyncio::{Awaiter, GatherState, HeapId, Object, Objects};
 
 // An awaited gather: its places, its awaiter, and the bits of the places that wait for their items.
 #[derive(Clone, Copy)]
@@ -18,8 +17,8 @@ pub struct AwaitedGather {
 }
 
 // Object `g` as an awaited gather, if it is one.
-pub fn as_awaited(objects: &[u64], g: HeapId) -> Option<AwaitedGather>
-    requires { ObjectsLength objects.now × (g.0 < object_limit) }
+pub fn as_awaited(objects: &Objects, g: HeapId) -> Option<AwaitedGather>
+    requires { (g.0 < object_limit) }
     ensures { option_awaited result ≡ as_awaited (object_at objects.now g.0) }
 {
     let o = rows::tables::load_object(objects, g);

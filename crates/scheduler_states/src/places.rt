@@ -7,13 +7,12 @@ ghost use Rattle.rows.specs.Slices.{place_in};
 ghost use Rattle.machine.specs.Commit.{open_from};
 ghost use Rattle.scheduler_states.specs.Awaited.{awaited_gather};
 ghost use Rattle.scheduler_states.specs.OpenPlaces.{open_here};
-ghost use Rattle.contract.specs.Contract.{PlacesLength};
 
-use asyncio::HeapId;
+use asyncio::{HeapId, Places};
 
 // Is place `p`, which is place `i` of its gather, open, and does it name object `o`?
-fn is_open_here(places: &[u64], open_places: u32, p: usize, i: usize, o: HeapId) -> bool
-    requires { PlacesLength places.now × (p < place_limit) × (i < item_limit) }
+fn is_open_here(places: &Places, open_places: u32, p: usize, i: usize, o: HeapId) -> bool
+    requires { (p < place_limit) × (i < item_limit) }
     ensures { result ≡ open_here (place_in places) open_places p i o.0 }
 {
     if (open_places >> i) % 2 == 0 {
@@ -24,8 +23,8 @@ fn is_open_here(places: &[u64], open_places: u32, p: usize, i: usize, o: HeapId)
 }
 
 // Does an open place name object `o`? The gather has `count` places from `first` on; it does not matter who awaits it.
-pub fn is_open(places: &[u64], first: u16, count: u16, open_places: u32, o: HeapId) -> bool
-    requires { PlacesLength places.now × PlacesFit first count }
+pub fn is_open(places: &Places, first: u16, count: u16, open_places: u32, o: HeapId) -> bool
+    requires { PlacesFit first count }
     ensures { (a : Awaiter) → result ≡ open_from (place_in places) (awaited_gather first count a open_places) o.0 0 count }
 {
     let from = first as usize;

@@ -2,10 +2,9 @@
 #![tactic(auto)]
 
 ghost use Rattle.std.specs.Prelude.{◌≡◌, length, replicate};
-ghost use Rattle.contract.specs.Contract.{Lengths₂};
 ghost use Rattle.session_begin.specs.Begin.{StoresMain, LentBegin};
 
-use asyncio::{Awaiter, Header, HeapId, Moment, Task, TaskId, TaskState};
+use asyncio::{Awaiter, Header, HeapId, Moment, Objects, Task, TaskId, TaskState, Tasks};
 use exec_switch::answer::{Answer, Stepped};
 use queue::ReadyQueue;
 use step_checks::lent::slices_right;
@@ -23,8 +22,7 @@ fn clear(words: &mut [u64])
 }
 
 // Main runs, and nothing else exists.
-fn store_main(tasks: &mut [u64], objects: &mut [u64])
-    requires { Lengths₂ tasks.old objects.old }
+fn store_main(tasks: &mut Tasks, objects: &mut Objects)
     ensures { StoresMain tasks objects }
 {
     rows::tables::store_header(

@@ -2,11 +2,10 @@
 ghost use Rattle.std.specs.Prelude.{◌≡◌, ◌||◌, ◌<◌, ◌+◌, ◌≤◌};
 ghost use Rattle.asyncio.specs.Limits.{object_limit, item_limit, place_limit};
 ghost use Rattle.rows.specs.Slices.{object_in, place_in};
-ghost use Rattle.contract.specs.Contract.{ObjectsLengthAnd, PlacesLengthAnd};
 ghost use Rattle.machine.specs.Scheduler.{bit};
 ghost use Rattle.machine.specs.Sound.{is_filled, rest_filled, object_filled, places_filled};
 
-use asyncio::{HeapId, Value};
+use asyncio::{HeapId, Objects, Places, Value};
 use rows::parts::{count_at, first_at, kind_at, open_at, result_at};
 
 // A value is there.
@@ -20,8 +19,8 @@ fn is_filled(x: Option<Value>) -> bool
 }
 
 // Place `k` of a gather whose places start at `first` is open in `m`, or filled.
-fn place_done(places: &[u64], first: usize, m: u32, k: usize) -> bool
-    requires { PlacesLengthAnd places.now ((first + k < place_limit) × (k < item_limit)) }
+fn place_done(places: &Places, first: usize, m: u32, k: usize) -> bool
+    requires { (first + k < place_limit) × (k < item_limit) }
     ensures { result ≡ (bit m k || is_filled (place_in places (first + k)).result) }
 {
     if (m >> k) % 2 == 0 {
@@ -31,8 +30,8 @@ fn place_done(places: &[u64], first: usize, m: u32, k: usize) -> bool
 }
 
 // The places not open in `m` are filled.
-fn rest_filled(places: &[u64], first: usize, n: usize, m: u32) -> bool
-    requires { PlacesLengthAnd places.now ((first + n ≤ place_limit) × (n ≤ item_limit)) }
+fn rest_filled(places: &Places, first: usize, n: usize, m: u32) -> bool
+    requires { (first + n ≤ place_limit) × (n ≤ item_limit) }
     ensures { result ≡ rest_filled (place_in places) first n m }
 {
     let mut k: usize = 0;
@@ -47,8 +46,8 @@ fn rest_filled(places: &[u64], first: usize, n: usize, m: u32) -> bool
 }
 
 // Object `o` by its kind: only gathers have places.
-fn object_filled(objects: &[u64], places: &[u64], o: HeapId) -> bool
-    requires { ObjectsLengthAnd objects.now (PlacesLengthAnd places.now (o.0 < object_limit)) }
+fn object_filled(objects: &Objects, places: &Places, o: HeapId) -> bool
+    requires { o.0 < object_limit }
     ensures { result ≡ object_filled (place_in places) (object_in objects o.0) }
 {
     let kind = kind_at(objects, o);
@@ -68,8 +67,8 @@ fn object_filled(objects: &[u64], places: &[u64], o: HeapId) -> bool
 }
 
 // Of every object.
-pub fn places_filled(made: u16, objects: &[u64], places: &[u64]) -> bool
-    requires { ObjectsLengthAnd objects.now (PlacesLengthAnd places.now (made ≤ object_limit)) }
+pub fn places_filled(made: u16, objects: &Objects, places: &Places) -> bool
+    requires { made ≤ object_limit }
     ensures { result ≡ places_filled made (object_in objects) (place_in places) }
 {
     let mut o: u16 = 0;

@@ -11,18 +11,18 @@ ghost use Rattle.std.specs.Prelude.{◌≡◌, List, ◌≤◌, take};
 ghost use Rattle.asyncio.specs.Limits.{task_limit};
 ghost use Rattle.asyncio.specs.Ranges.{HeaderFits};
 ghost use Rattle.rows.specs.Slices.{task_in, object_in, place_in};
-ghost use Rattle.contract.specs.Contract.{kept, before, Lengths, Lengths₂And, LengthsAnd};
+ghost use Rattle.contract.specs.Contract.{kept, before};
 ghost use Rattle.machine.specs.Store.{LogEntry};
 ghost use Rattle.machine.specs.Sound.{sound};
 ghost use Rattle.sound.specs.Clauses.{rows_canonical, tables_sound, tasks_sound, gathers_sound};
 
-use asyncio::{Header, TASKS};
+use asyncio::{Header, Objects, Places, TASKS, Tasks};
 use queue::ReadyQueue;
 use rows::tables::load_header;
 
 // Every row in use is canonical.
-fn rows_canonical(header: Header, tasks: &[u64], objects: &[u64], places: &[u64]) -> bool
-    requires { LengthsAnd tasks.now objects.now places.now (HeaderFits header) }
+fn rows_canonical(header: Header, tasks: &Tasks, objects: &Objects, places: &Places) -> bool
+    requires { HeaderFits header }
     ensures { result ≡ rows_canonical header tasks.now objects.now places.now }
 {
     if sound_words::header_same(objects) {
@@ -38,8 +38,8 @@ fn rows_canonical(header: Header, tasks: &[u64], objects: &[u64], places: &[u64]
 }
 
 // Clauses 1 to 4.
-fn tables_sound(header: Header, tasks: &[u64], objects: &[u64], places: &[u64]) -> bool
-    requires { LengthsAnd tasks.now objects.now places.now (HeaderFits header) }
+fn tables_sound(header: Header, tasks: &Tasks, objects: &Objects, places: &Places) -> bool
+    requires { HeaderFits header }
     ensures { result ≡ tables_sound header (object_in objects) (task_in tasks) (place_in places) }
 {
     if sound_rows::numbers::numbers_in_range(header, tasks, objects) {
@@ -55,8 +55,8 @@ fn tables_sound(header: Header, tasks: &[u64], objects: &[u64], places: &[u64]) 
 }
 
 // Clauses 5 to 8, with the first `n` places of the queue.
-fn tasks_sound(header: Header, ids: [u16; TASKS], n: usize, tasks: &[u64], objects: &[u64]) -> bool
-    requires { Lengths₂And tasks.now objects.now (HeaderFits header × (n ≤ task_limit)) }
+fn tasks_sound(header: Header, ids: [u16; TASKS], n: usize, tasks: &Tasks, objects: &Objects) -> bool
+    requires { HeaderFits header × (n ≤ task_limit) }
     ensures { result ≡ tasks_sound header (object_in objects) (task_in tasks) (take n ids) }
 {
     if sound_tasks::entries::queue_ready(ids, n, header.next, tasks) {
@@ -72,8 +72,8 @@ fn tasks_sound(header: Header, ids: [u16; TASKS], n: usize, tasks: &[u64], objec
 }
 
 // Clauses 9 to 11.
-fn gathers_sound(header: Header, tasks: &[u64], objects: &[u64], places: &[u64]) -> bool
-    requires { LengthsAnd tasks.now objects.now places.now (HeaderFits header) }
+fn gathers_sound(header: Header, tasks: &Tasks, objects: &Objects, places: &Places) -> bool
+    requires { HeaderFits header }
     ensures { result ≡ gathers_sound header (object_in objects) (task_in tasks) (place_in places) }
 {
     if filled::places_filled(header.made, objects, places) {
@@ -86,8 +86,7 @@ fn gathers_sound(header: Header, tasks: &[u64], objects: &[u64], places: &[u64])
 }
 
 // Is the store sound? The words are tested first, so that the clauses speak of rows whose words say what they are read as.
-pub fn is_sound(queue: ReadyQueue, tasks: &[u64], objects: &[u64], places: &[u64]) -> bool
-    requires { Lengths tasks.now objects.now places.now }
+pub fn is_sound(queue: ReadyQueue, tasks: &Tasks, objects: &Objects, places: &Places) -> bool
     ensures { (l : List LogEntry) → result ≡ sound (before (kept tasks.now) (kept objects.now) (kept places.now) queue l) }
 {
     let n = queue.len;

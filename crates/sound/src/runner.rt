@@ -4,11 +4,10 @@ ghost use Rattle.std.specs.Bool.{beq};
 ghost use Rattle.asyncio.specs.Limits.{task_limit};
 ghost use Rattle.asyncio.specs.States.{is_running};
 ghost use Rattle.rows.specs.Slices.{task_in};
-ghost use Rattle.contract.specs.Contract.{TasksLengthAnd};
 ghost use Rattle.machine.specs.Tests.{all_below};
 ghost use Rattle.machine.specs.Sound.{runs_now, runner_in_range, one_runs};
 
-use asyncio::{Header, Moment, TaskId, TaskState};
+use asyncio::{Header, Moment, TaskId, TaskState, Tasks};
 use rows::parts::state_at;
 
 // Is `t` the running task?
@@ -47,8 +46,8 @@ fn runs_as_told(m: Moment, t: u16, s: TaskState) -> bool
     true
 }
 
-fn tasks_as_told(header: Header, tasks: &[u64]) -> bool
-    requires { TasksLengthAnd tasks.now (header.next ≤ task_limit) }
+fn tasks_as_told(header: Header, tasks: &Tasks) -> bool
+    requires { header.next ≤ task_limit }
     ensures { result ≡ all_below header.next (λ t. beq (is_running (task_in tasks t).state) (runs_now header.moment t)) }
 {
     let next = header.next;
@@ -65,8 +64,8 @@ fn tasks_as_told(header: Header, tasks: &[u64]) -> bool
 }
 
 // The tasks whose state is running: the one of the moment.
-pub fn one_runs(header: Header, tasks: &[u64]) -> bool
-    requires { TasksLengthAnd tasks.now (header.next ≤ task_limit) }
+pub fn one_runs(header: Header, tasks: &Tasks) -> bool
+    requires { header.next ≤ task_limit }
     ensures { result ≡ one_runs header (task_in tasks) }
 {
     let moment = header.moment;

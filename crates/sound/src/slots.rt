@@ -4,20 +4,19 @@ ghost use Rattle.asyncio.specs.Limits.{task_limit, object_limit};
 ghost use Rattle.asyncio.specs.Parts.{awaiter_of};
 ghost use Rattle.asyncio.specs.Ranges.{AwaiterFits};
 ghost use Rattle.rows.specs.Slices.{task_in, object_in, place_in};
-ghost use Rattle.contract.specs.Contract.{ObjectsLengthAnd, PlacesLengthAnd, LengthsAnd};
 ghost use Rattle.machine.specs.Tests.{all_below};
 ghost use Rattle.machine.specs.Sound.{slot_open, slots_open};
 ghost use Rattle.sound.specs.SlotLaws.{gather_holds, task_slot_open};
 
-use asyncio::{Awaiter, Header, HeapId, TaskId};
+use asyncio::{Awaiter, Header, HeapId, Objects, Places, TaskId, Tasks};
 use rows::parts::{
     awaiter_at, coroutine_at, count_at, first_at, kind_at, open_at, state_at, task_awaiter_at,
 };
 use scheduler_states::places::is_open;
 
 // Gather `g` was committed and, if it is awaited, has object `o` open.
-fn gather_holds(objects: &[u64], places: &[u64], g: HeapId, o: HeapId) -> bool
-    requires { ObjectsLengthAnd objects.now (PlacesLengthAnd places.now (g.0 < object_limit)) }
+fn gather_holds(objects: &Objects, places: &Places, g: HeapId, o: HeapId) -> bool
+    requires { g.0 < object_limit }
     ensures { result ≡ gather_holds (object_in objects) (place_in places) g.0 o.0 }
 {
     let kind = kind_at(objects, g);
@@ -31,8 +30,8 @@ fn gather_holds(objects: &[u64], places: &[u64], g: HeapId, o: HeapId) -> bool
 }
 
 // The awaiter of the holder of object `o`.
-fn slot_open(objects: &[u64], places: &[u64], o: HeapId, w: Awaiter) -> bool
-    requires { ObjectsLengthAnd objects.now (PlacesLengthAnd places.now (AwaiterFits w)) }
+fn slot_open(objects: &Objects, places: &Places, o: HeapId, w: Awaiter) -> bool
+    requires { AwaiterFits w }
     ensures { result ≡ slot_open (object_in objects) (place_in places) o.0 w }
 {
     match w {
@@ -48,8 +47,8 @@ fn slot_open(objects: &[u64], places: &[u64], o: HeapId, w: Awaiter) -> bool
 }
 
 // Of every object.
-fn object_slots(made: u16, objects: &[u64], places: &[u64]) -> bool
-    requires { ObjectsLengthAnd objects.now (PlacesLengthAnd places.now (made ≤ object_limit)) }
+fn object_slots(made: u16, objects: &Objects, places: &Places) -> bool
+    requires { made ≤ object_limit }
     ensures { result ≡ all_below made (λ o. slot_open (object_in objects) (place_in places) o (awaiter_of (object_in objects o))) }
 {
     let mut o: u16 = 0;
@@ -65,8 +64,8 @@ fn object_slots(made: u16, objects: &[u64], places: &[u64]) -> bool
 }
 
 // A live task's awaiter, for its coroutine.
-fn task_slot(tasks: &[u64], objects: &[u64], places: &[u64], t: TaskId) -> bool
-    requires { LengthsAnd tasks.now objects.now places.now (t.0 < task_limit) }
+fn task_slot(tasks: &Tasks, objects: &Objects, places: &Places, t: TaskId) -> bool
+    requires { t.0 < task_limit }
     ensures { result ≡ task_slot_open (object_in objects) (task_in tasks) (place_in places) t.0 }
 {
     let state = state_at(tasks, t);
@@ -78,8 +77,8 @@ fn task_slot(tasks: &[u64], objects: &[u64], places: &[u64], t: TaskId) -> bool
 }
 
 // Of every task.
-fn task_slots(next: u16, tasks: &[u64], objects: &[u64], places: &[u64]) -> bool
-    requires { LengthsAnd tasks.now objects.now places.now (next ≤ task_limit) }
+fn task_slots(next: u16, tasks: &Tasks, objects: &Objects, places: &Places) -> bool
+    requires { next ≤ task_limit }
     ensures { result ≡ all_below next (task_slot_open (object_in objects) (task_in tasks) (place_in places)) }
 {
     let mut t: u16 = 0;
@@ -94,8 +93,8 @@ fn task_slots(next: u16, tasks: &[u64], objects: &[u64], places: &[u64]) -> bool
 }
 
 // Of objects, and of live tasks for their coroutines.
-pub fn slots_open(header: Header, tasks: &[u64], objects: &[u64], places: &[u64]) -> bool
-    requires { LengthsAnd tasks.now objects.now places.now ((header.made ≤ object_limit) × (header.next ≤ task_limit)) }
+pub fn slots_open(header: Header, tasks: &Tasks, objects: &Objects, places: &Places) -> bool
+    requires { (header.made ≤ object_limit) × (header.next ≤ task_limit) }
     ensures { result ≡ slots_open header (object_in objects) (task_in tasks) (place_in places) }
 {
     if object_slots(header.made, objects, places) {

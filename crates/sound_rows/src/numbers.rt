@@ -2,13 +2,12 @@
 ghost use Rattle.std.specs.Prelude.{◌≡◌, ◌*◌, ◌<◌, ◌≤◌, ◌^◌, ltb};
 ghost use Rattle.asyncio.specs.Limits.{task_limit, object_limit, item_limit};
 ghost use Rattle.asyncio.specs.Kinds.{kind, is_coroutine};
-ghost use Rattle.rows.specs.Slices.{ObjectRow, task_in, object_in};
-ghost use Rattle.contract.specs.Contract.{ObjectsLengthAnd, Lengths₂And};
+ghost use Rattle.rows.specs.Slices.{task_in, object_in};
 ghost use Rattle.machine.specs.Tests.{◌and◌, all_below, sum_below};
 ghost use Rattle.machine.specs.Sound.{awaiter_in_range, is_slot, object_in_range, task_in_range, numbers_in_range, committed_places, spawned_in_range};
 ghost use Rattle.sound_rows.specs.Numbers.{objects_ranged};
 
-use asyncio::{Awaiter, Header, HeapId, TaskId};
+use asyncio::{Awaiter, Header, HeapId, Objects, TaskId, Tasks};
 use rows::parts::{
     awaiter_at, call_at, coroutine_at, count_at, first_at, kind_at, open_at, state_at,
     task_awaiter_at,
@@ -36,8 +35,8 @@ fn open_in_range(n: u16, m: u32) -> bool
 }
 
 // Object `o` is made; its call was handed out; a gather's places start at `p`.
-fn object_in_range(header: Header, objects: &[u64], o: HeapId, p: u16) -> bool
-    requires { ObjectRow objects.now o.0 }
+fn object_in_range(header: Header, objects: &Objects, o: HeapId, p: u16) -> bool
+    requires { o.0 < object_limit }
     ensures { result ≡ object_in_range header p (object_in objects o.0) }
 {
     let kind = kind_at(objects, o);
@@ -55,8 +54,8 @@ fn object_in_range(header: Header, objects: &[u64], o: HeapId, p: u16) -> bool
 }
 
 // Objects and their awaiters, and the places used: `p` is where the places of the gathers so far end.
-fn objects_in_range(header: Header, objects: &[u64]) -> bool
-    requires { ObjectsLengthAnd objects.now (header.made ≤ object_limit) }
+fn objects_in_range(header: Header, objects: &Objects) -> bool
+    requires { header.made ≤ object_limit }
     ensures { result ≡ objects_ranged header (object_in objects) }
 {
     let made = header.made;
@@ -90,8 +89,8 @@ fn slot_in_range(header: Header, w: Awaiter) -> bool
 }
 
 // Object `c` is made, and a coroutine.
-fn coroutine_made(made: u16, objects: &[u64], c: HeapId) -> bool
-    requires { ObjectsLengthAnd objects.now (made ≤ object_limit) }
+fn coroutine_made(made: u16, objects: &Objects, c: HeapId) -> bool
+    requires { made ≤ object_limit }
     ensures { result ≡ ltb c.0 made and is_coroutine (kind (object_in objects c.0)) }
 {
     if c.0 < made {
@@ -102,8 +101,8 @@ fn coroutine_made(made: u16, objects: &[u64], c: HeapId) -> bool
 }
 
 // Main is never unstarted, and has no awaiter and no coroutine. A live spawned task has a slot for its awaiter, and names a coroutine.
-fn task_in_range(header: Header, tasks: &[u64], objects: &[u64], t: TaskId) -> bool
-    requires { Lengths₂And tasks.now objects.now ((header.made ≤ object_limit) × (t.0 < task_limit)) }
+fn task_in_range(header: Header, tasks: &Tasks, objects: &Objects, t: TaskId) -> bool
+    requires { (header.made ≤ object_limit) × (t.0 < task_limit) }
     ensures { result ≡ task_in_range header (object_in objects) t.0 (task_in tasks t.0) }
 {
     let state = state_at(tasks, t);
@@ -127,8 +126,8 @@ fn task_in_range(header: Header, tasks: &[u64], objects: &[u64], t: TaskId) -> b
     true
 }
 
-fn tasks_in_range(header: Header, tasks: &[u64], objects: &[u64]) -> bool
-    requires { Lengths₂And tasks.now objects.now ((header.made ≤ object_limit) × (header.next ≤ task_limit)) }
+fn tasks_in_range(header: Header, tasks: &Tasks, objects: &Objects) -> bool
+    requires { (header.made ≤ object_limit) × (header.next ≤ task_limit) }
     ensures { result ≡ all_below header.next (λ t. task_in_range header (object_in objects) t (task_in tasks t)) }
 {
     let next = header.next;
@@ -144,8 +143,8 @@ fn tasks_in_range(header: Header, tasks: &[u64], objects: &[u64]) -> bool
 }
 
 // Counts, objects, awaiters and tasks.
-pub fn numbers_in_range(header: Header, tasks: &[u64], objects: &[u64]) -> bool
-    requires { Lengths₂And tasks.now objects.now ((header.made ≤ object_limit) × (header.next ≤ task_limit)) }
+pub fn numbers_in_range(header: Header, tasks: &Tasks, objects: &Objects) -> bool
+    requires { (header.made ≤ object_limit) × (header.next ≤ task_limit) }
     ensures { result ≡ numbers_in_range header (object_in objects) (task_in tasks) }
 {
     if header.next == 0 {
@@ -160,8 +159,8 @@ pub fn numbers_in_range(header: Header, tasks: &[u64], objects: &[u64]) -> bool
 // ---- 2. No more tasks were spawned than committed gathers have places.
 
 // The places of the committed gathers below `made`.
-fn committed_places(objects: &[u64], made: u16) -> u16
-    requires { ObjectsLengthAnd objects.now (made ≤ object_limit) }
+fn committed_places(objects: &Objects, made: u16) -> u16
+    requires { made ≤ object_limit }
     ensures { (result ≡ sum_below made (λ o. committed_places (object_in objects o))) × (result ≤ item_limit * object_limit) }
 {
     let mut sum: u16 = 0;
@@ -180,8 +179,8 @@ fn committed_places(objects: &[u64], made: u16) -> u16
 }
 
 // Spawned: the tasks below the next number but main.
-pub fn spawned_in_range(header: Header, objects: &[u64]) -> bool
-    requires { ObjectsLengthAnd objects.now (header.made ≤ object_limit) }
+pub fn spawned_in_range(header: Header, objects: &Objects) -> bool
+    requires { header.made ≤ object_limit }
     ensures { result ≡ spawned_in_range header (object_in objects) }
 {
     header.next <= committed_places(objects, header.made) + 1

@@ -2,21 +2,20 @@
 ghost use Rattle.std.specs.Prelude.{◌≡◌, ◌<◌, ◌+◌, ◌≤◌, ltb};
 ghost use Rattle.asyncio.specs.Limits.{task_limit, object_limit, place_limit};
 ghost use Rattle.rows.specs.Slices.{task_in, object_in, place_in};
-ghost use Rattle.contract.specs.Contract.{ObjectsLengthAnd, PlacesLengthAnd, Lengths₂And, LengthsAnd};
 ghost use Rattle.machine.specs.Tests.{all_below};
 ghost use Rattle.machine.specs.Sound.{items_lower, value_known, option_known, object_values, state_values, lists_completed};
 ghost use Rattle.asyncio.specs.Ranges.{HeaderFits};
 
 use asyncio::words::{to_option, to_value};
-use asyncio::{Header, HeapId, TaskId, TaskState, Value};
+use asyncio::{Header, HeapId, Objects, Places, TaskId, TaskState, Tasks, Value};
 use rows::parts::{count_at, first_at, item_at, kind_at, result_at, state_at};
 use rows::tables::object_row;
 
 // ---- 3. Items are lower than their gather.
 
 // The items of gather `g`, in its `n` places from `first` on.
-fn items_below(places: &[u64], g: u16, first: usize, n: usize) -> bool
-    requires { PlacesLengthAnd places.now (first + n ≤ place_limit) }
+fn items_below(places: &Places, g: u16, first: usize, n: usize) -> bool
+    requires { first + n ≤ place_limit }
     ensures { result ≡ all_below n (λ k. ltb (place_in places (first + k)).item.0 g) }
 {
     let mut k: usize = 0;
@@ -32,8 +31,8 @@ fn items_below(places: &[u64], g: u16, first: usize, n: usize) -> bool
 }
 
 // Of every gather; other objects have no places.
-pub fn items_lower(made: u16, objects: &[u64], places: &[u64]) -> bool
-    requires { ObjectsLengthAnd objects.now (PlacesLengthAnd places.now (made ≤ object_limit)) }
+pub fn items_lower(made: u16, objects: &Objects, places: &Places) -> bool
+    requires { made ≤ object_limit }
     ensures { result ≡ items_lower made (object_in objects) (place_in places) }
 {
     let mut o: u16 = 0;
@@ -53,8 +52,8 @@ pub fn items_lower(made: u16, objects: &[u64], places: &[u64]) -> bool
 // ---- 4. List values name completed gathers.
 
 // A value that may be handed on: plain, or the list of a completed gather among the objects made.
-pub fn value_known(made: u16, objects: &[u64], v: Value) -> bool
-    requires { ObjectsLengthAnd objects.now (made ≤ object_limit) }
+pub fn value_known(made: u16, objects: &Objects, v: Value) -> bool
+    requires { made ≤ object_limit }
     ensures { result ≡ value_known made (object_in objects) v }
 {
     match v {
@@ -70,8 +69,8 @@ pub fn value_known(made: u16, objects: &[u64], v: Value) -> bool
 }
 
 // A value, or none.
-pub fn option_known(made: u16, objects: &[u64], x: Option<Value>) -> bool
-    requires { ObjectsLengthAnd objects.now (made ≤ object_limit) }
+pub fn option_known(made: u16, objects: &Objects, x: Option<Value>) -> bool
+    requires { made ≤ object_limit }
     ensures { result ≡ option_known made (object_in objects) x }
 {
     match x {
@@ -82,8 +81,8 @@ pub fn option_known(made: u16, objects: &[u64], x: Option<Value>) -> bool
 
 // The value or stored result that object `o` holds, read from its own two words: a pending external (kind 4) holds the one, a resolved
 // external (kind 5) the other. Other objects hold none.
-fn object_values(made: u16, objects: &[u64], o: HeapId) -> bool
-    requires { ObjectsLengthAnd objects.now ((made ≤ object_limit) × (o.0 < object_limit)) }
+fn object_values(made: u16, objects: &Objects, o: HeapId) -> bool
+    requires { (made ≤ object_limit) × (o.0 < object_limit) }
     ensures { result ≡ object_values made (object_in objects) (object_in objects o.0) }
 {
     let row = object_row(objects, o.0 as usize);
@@ -97,8 +96,8 @@ fn object_values(made: u16, objects: &[u64], o: HeapId) -> bool
 }
 
 // The value delivered to a task.
-fn state_values(made: u16, objects: &[u64], s: TaskState) -> bool
-    requires { ObjectsLengthAnd objects.now (made ≤ object_limit) }
+fn state_values(made: u16, objects: &Objects, s: TaskState) -> bool
+    requires { made ≤ object_limit }
     ensures { result ≡ state_values made (object_in objects) s }
 {
     match s {
@@ -111,8 +110,8 @@ fn state_values(made: u16, objects: &[u64], s: TaskState) -> bool
     }
 }
 
-fn objects_known(made: u16, objects: &[u64]) -> bool
-    requires { ObjectsLengthAnd objects.now (made ≤ object_limit) }
+fn objects_known(made: u16, objects: &Objects) -> bool
+    requires { made ≤ object_limit }
     ensures { result ≡ all_below made (λ o. object_values made (object_in objects) (object_in objects o)) }
 {
     let mut o: u16 = 0;
@@ -126,8 +125,8 @@ fn objects_known(made: u16, objects: &[u64]) -> bool
     true
 }
 
-fn tasks_known(made: u16, next: u16, tasks: &[u64], objects: &[u64]) -> bool
-    requires { Lengths₂And tasks.now objects.now ((made ≤ object_limit) × (next ≤ task_limit)) }
+fn tasks_known(made: u16, next: u16, tasks: &Tasks, objects: &Objects) -> bool
+    requires { (made ≤ object_limit) × (next ≤ task_limit) }
     ensures { result ≡ all_below next (λ t. state_values made (object_in objects) (task_in tasks t).state) }
 {
     let mut t: u16 = 0;
@@ -141,8 +140,8 @@ fn tasks_known(made: u16, next: u16, tasks: &[u64], objects: &[u64]) -> bool
     true
 }
 
-fn places_known(made: u16, used: u16, objects: &[u64], places: &[u64]) -> bool
-    requires { ObjectsLengthAnd objects.now (PlacesLengthAnd places.now ((made ≤ object_limit) × (used ≤ place_limit))) }
+fn places_known(made: u16, used: u16, objects: &Objects, places: &Places) -> bool
+    requires { (made ≤ object_limit) × (used ≤ place_limit) }
     ensures { result ≡ all_below used (λ p. option_known made (object_in objects) (place_in places p).result) }
 {
     let n = used as usize;
@@ -158,8 +157,8 @@ fn places_known(made: u16, used: u16, objects: &[u64], places: &[u64]) -> bool
 }
 
 // Of objects, tasks and places.
-pub fn lists_completed(header: Header, tasks: &[u64], objects: &[u64], places: &[u64]) -> bool
-    requires { LengthsAnd tasks.now objects.now places.now (HeaderFits header) }
+pub fn lists_completed(header: Header, tasks: &Tasks, objects: &Objects, places: &Places) -> bool
+    requires { HeaderFits header }
     ensures { result ≡ lists_completed header (object_in objects) (task_in tasks) (place_in places) }
 {
     if objects_known(header.made, objects) {

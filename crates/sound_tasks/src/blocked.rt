@@ -5,12 +5,11 @@ ghost use Rattle.asyncio.specs.Parts.{awaiter_of};
 ghost use Rattle.asyncio.specs.Ranges.{AwaiterFits};
 ghost use Rattle.asyncio.specs.States.{is_live};
 ghost use Rattle.rows.specs.Slices.{task_in, object_in};
-ghost use Rattle.contract.specs.Contract.{TasksLengthAnd, ObjectsLengthAnd, Lengths₂And};
 ghost use Rattle.machine.specs.Tests.{implies, all_below};
 ghost use Rattle.machine.specs.Scheduler.{blocked_on};
 ghost use Rattle.machine.specs.Sound.{is_task, blocked_awaits, blocked_at, awaiter_blocked, blocked_match};
 
-use asyncio::{Awaiter, Header, HeapId, TaskId, TaskState};
+use asyncio::{Awaiter, Header, HeapId, Objects, TaskId, TaskState, Tasks};
 use rows::parts::{awaiter_at, state_at};
 
 // The awaiter is task `t`.
@@ -28,8 +27,8 @@ fn is_task(t: u16, w: Awaiter) -> bool
 }
 
 // Task `t` in state `s`: where it is blocked on an object, that object is made and `t` is its awaiter.
-fn blocked_awaits(made: u16, objects: &[u64], t: u16, s: TaskState) -> bool
-    requires { ObjectsLengthAnd objects.now (made ≤ object_limit) }
+fn blocked_awaits(made: u16, objects: &Objects, t: u16, s: TaskState) -> bool
+    requires { made ≤ object_limit }
     ensures { result ≡ blocked_awaits made (object_in objects) t (blocked_on s) }
 {
     match s {
@@ -48,8 +47,8 @@ fn blocked_awaits(made: u16, objects: &[u64], t: u16, s: TaskState) -> bool
 }
 
 // Of every task.
-fn tasks_await(header: Header, tasks: &[u64], objects: &[u64]) -> bool
-    requires { Lengths₂And tasks.now objects.now ((header.made ≤ object_limit) × (header.next ≤ task_limit)) }
+fn tasks_await(header: Header, tasks: &Tasks, objects: &Objects) -> bool
+    requires { (header.made ≤ object_limit) × (header.next ≤ task_limit) }
     ensures { result ≡ all_below header.next (λ t. blocked_awaits header.made (object_in objects) t (blocked_on (task_in tasks t).state)) }
 {
     let next = header.next;
@@ -79,8 +78,8 @@ fn waits_for(s: TaskState, o: u16) -> bool
 }
 
 // The awaiter of object `o`, if it is a live task, is blocked on `o`.
-fn awaiter_blocked(tasks: &[u64], o: u16, w: Awaiter) -> bool
-    requires { TasksLengthAnd tasks.now (AwaiterFits w) }
+fn awaiter_blocked(tasks: &Tasks, o: u16, w: Awaiter) -> bool
+    requires { AwaiterFits w }
     ensures { result ≡ awaiter_blocked (task_in tasks) o w }
 {
     match w {
@@ -94,8 +93,8 @@ fn awaiter_blocked(tasks: &[u64], o: u16, w: Awaiter) -> bool
 }
 
 // Of every object.
-fn awaiters_blocked(made: u16, tasks: &[u64], objects: &[u64]) -> bool
-    requires { Lengths₂And tasks.now objects.now (made ≤ object_limit) }
+fn awaiters_blocked(made: u16, tasks: &Tasks, objects: &Objects) -> bool
+    requires { made ≤ object_limit }
     ensures { result ≡ all_below made (λ o. awaiter_blocked (task_in tasks) o (awaiter_of (object_in objects o))) }
 {
     let mut o: u16 = 0;
@@ -110,8 +109,8 @@ fn awaiters_blocked(made: u16, tasks: &[u64], objects: &[u64]) -> bool
 }
 
 // Both ways.
-pub fn blocked_match(header: Header, tasks: &[u64], objects: &[u64]) -> bool
-    requires { Lengths₂And tasks.now objects.now ((header.made ≤ object_limit) × (header.next ≤ task_limit)) }
+pub fn blocked_match(header: Header, tasks: &Tasks, objects: &Objects) -> bool
+    requires { (header.made ≤ object_limit) × (header.next ≤ task_limit) }
     ensures { result ≡ blocked_match header (object_in objects) (task_in tasks) }
 {
     if tasks_await(header, tasks, objects) {

@@ -1,18 +1,17 @@
 // Clause 6: in a session not ended, pending calls and pending externals match one to one: no two have one call.
 ghost use Rattle.std.specs.Prelude.{◌≡◌, ◌<◌, ◌≤◌};
 ghost use Rattle.asyncio.specs.Limits.{object_limit};
-ghost use Rattle.rows.specs.Slices.{ObjectRow, object_in};
-ghost use Rattle.contract.specs.Contract.{ObjectsLengthAnd};
+ghost use Rattle.rows.specs.Slices.{object_in};
 ghost use Rattle.machine.specs.Tests.{all_below};
 ghost use Rattle.machine.specs.Sound.{call_new, calls_distinct};
 ghost use Rattle.sound_tasks.specs.CallLaws.{call_number, other_call};
 
-use asyncio::{Header, HeapId, Moment};
+use asyncio::{Header, HeapId, Moment, Objects};
 use rows::parts::{call_at, kind_at};
 
 // One more than the call of a pending external, 0 for every other object.
-fn call_number(objects: &[u64], o: HeapId) -> u64
-    requires { ObjectRow objects.now o.0 }
+fn call_number(objects: &Objects, o: HeapId) -> u64
+    requires { o.0 < object_limit }
     ensures { result ≡ call_number objects.now o.0 }
 {
     let kind = kind_at(objects, o);
@@ -24,8 +23,8 @@ fn call_number(objects: &[u64], o: HeapId) -> u64
 }
 
 // No object below `n` has the number `c`.
-fn others_differ(objects: &[u64], c: u64, n: u16) -> bool
-    requires { ObjectsLengthAnd objects.now (n ≤ object_limit) }
+fn others_differ(objects: &Objects, c: u64, n: u16) -> bool
+    requires { n ≤ object_limit }
     ensures { result ≡ all_below n (other_call objects.now c) }
 {
     let mut p: u16 = 0;
@@ -40,8 +39,8 @@ fn others_differ(objects: &[u64], c: u64, n: u16) -> bool
 }
 
 // `top` is the highest so far: a call above it is new, and only one that is not is looked for among those before it.
-fn calls_new(objects: &[u64], made: u16) -> bool
-    requires { ObjectsLengthAnd objects.now (made ≤ object_limit) }
+fn calls_new(objects: &Objects, made: u16) -> bool
+    requires { made ≤ object_limit }
     ensures { result ≡ all_below made (call_new (object_in objects)) }
 {
     let mut top: u64 = 0;
@@ -62,8 +61,8 @@ fn calls_new(objects: &[u64], made: u16) -> bool
     true
 }
 
-pub fn calls_distinct(header: Header, objects: &[u64]) -> bool
-    requires { ObjectsLengthAnd objects.now (header.made ≤ object_limit) }
+pub fn calls_distinct(header: Header, objects: &Objects) -> bool
+    requires { header.made ≤ object_limit }
     ensures { result ≡ calls_distinct header (object_in objects) }
 {
     let moment = header.moment;

@@ -2,15 +2,14 @@
 ghost use Rattle.std.specs.Prelude.{◌≡◌, ◌≤◌, take};
 ghost use Rattle.asyncio.specs.Limits.{task_limit};
 ghost use Rattle.rows.specs.Slices.{task_in};
-ghost use Rattle.contract.specs.Contract.{TasksLengthAnd};
 ghost use Rattle.machine.specs.Sound.{queue_ready};
 
-use asyncio::{TASKS, TaskId};
+use asyncio::{TASKS, TaskId, Tasks};
 use rows::parts::state_at;
 
 // Of the first `n` places: each entry is a task below the next number, ready, and not seen before.
-pub fn queue_ready(ids: [u16; TASKS], n: usize, next: u16, tasks: &[u64]) -> bool
-    requires { TasksLengthAnd tasks.now ((n ≤ task_limit) × (next ≤ task_limit)) }
+pub fn queue_ready(ids: [u16; TASKS], n: usize, next: u16, tasks: &Tasks) -> bool
+    requires { (n ≤ task_limit) × (next ≤ task_limit) }
     ensures { result ≡ queue_ready next (task_in tasks) (take n ids) }
 {
     let mut seen = [0u8; TASKS];

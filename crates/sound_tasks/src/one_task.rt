@@ -2,15 +2,14 @@
 ghost use Rattle.std.specs.Prelude.{◌≡◌, ◌≤◌};
 ghost use Rattle.asyncio.specs.Limits.{task_limit};
 ghost use Rattle.rows.specs.Slices.{task_in};
-ghost use Rattle.contract.specs.Contract.{TasksLengthAnd};
 ghost use Rattle.machine.specs.Sound.{one_task};
 
-use asyncio::{OBJECTS, TaskId};
+use asyncio::{OBJECTS, TaskId, Tasks};
 use rows::parts::{coroutine_at, state_at};
 
 // The coroutine of each live spawned task is not seen before.
-pub fn one_task(next: u16, tasks: &[u64]) -> bool
-    requires { TasksLengthAnd tasks.now (next ≤ task_limit) }
+pub fn one_task(next: u16, tasks: &Tasks) -> bool
+    requires { next ≤ task_limit }
     ensures { result ≡ one_task next (task_in tasks) }
 {
     let mut seen = [0u8; OBJECTS];

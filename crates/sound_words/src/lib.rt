@@ -7,9 +7,9 @@ mod groups; // groups of words, and an object's row by its kind
 ghost use Rattle.std.specs.Prelude.{◌≡◌, ◌<◌, ◌≤◌};
 ghost use Rattle.asyncio.specs.Limits.{task_limit, object_limit, place_limit};
 ghost use Rattle.rows.specs.Canonical.{same_words, task_canonical, object_canonical, place_canonical, header_canonical};
-ghost use Rattle.rows.specs.Slices.{TaskRow, ObjectRow, PlaceRow};
-ghost use Rattle.contract.specs.Contract.{ObjectsLength, TasksLengthAnd, ObjectsLengthAnd, PlacesLengthAnd};
 ghost use Rattle.machine.specs.Tests.{all_below};
+
+use asyncio::{Objects, Places, Tasks};
 
 use crate::groups::{is_object, is_place, is_task};
 use asyncio::words::{header_words, to_header};
@@ -29,40 +29,39 @@ fn same8(a: [u64; 8], b: [u64; 8]) -> bool
     true
 }
 
-pub fn header_same(objects: &[u64]) -> bool
-    requires { ObjectsLength objects.now }
+pub fn header_same(objects: &Objects) -> bool
     ensures { result ≡ header_canonical objects.now }
 {
     let row = header_row(objects);
     same8(header_words(to_header(row)), row)
 }
 
-fn task_same(tasks: &[u64], t: usize) -> bool
-    requires { TaskRow tasks.now t }
+fn task_same(tasks: &Tasks, t: usize) -> bool
+    requires { t < task_limit }
     ensures { result ≡ task_canonical tasks.now t }
 {
     let row = task_row(tasks, t);
     is_task(row)
 }
 
-fn object_same(objects: &[u64], o: usize) -> bool
-    requires { ObjectRow objects.now o }
+fn object_same(objects: &Objects, o: usize) -> bool
+    requires { o < object_limit }
     ensures { result ≡ object_canonical objects.now o }
 {
     let row = object_row(objects, o);
     is_object(row)
 }
 
-fn place_same(places: &[u64], p: usize) -> bool
-    requires { PlaceRow places.now p }
+fn place_same(places: &Places, p: usize) -> bool
+    requires { p < place_limit }
     ensures { result ≡ place_canonical places.now p }
 {
     let row = place_row(places, p);
     is_place(row)
 }
 
-pub fn tasks_same(tasks: &[u64], n: usize) -> bool
-    requires { TasksLengthAnd tasks.now (n ≤ task_limit) }
+pub fn tasks_same(tasks: &Tasks, n: usize) -> bool
+    requires { n ≤ task_limit }
     ensures { result ≡ all_below n (λ t. task_canonical tasks.now t) }
 {
     let mut i: usize = 0;
@@ -76,8 +75,8 @@ pub fn tasks_same(tasks: &[u64], n: usize) -> bool
     true
 }
 
-pub fn objects_same(objects: &[u64], n: usize) -> bool
-    requires { ObjectsLengthAnd objects.now (n ≤ object_limit) }
+pub fn objects_same(objects: &Objects, n: usize) -> bool
+    requires { n ≤ object_limit }
     ensures { result ≡ all_below n (λ o. object_canonical objects.now o) }
 {
     let mut i: usize = 0;
@@ -91,8 +90,8 @@ pub fn objects_same(objects: &[u64], n: usize) -> bool
     true
 }
 
-pub fn places_same(places: &[u64], n: usize) -> bool
-    requires { PlacesLengthAnd places.now (n ≤ place_limit) }
+pub fn places_same(places: &Places, n: usize) -> bool
+    requires { n ≤ place_limit }
     ensures { result ≡ all_below n (λ p. place_canonical places.now p) }
 {
     let mut i: usize = 0;

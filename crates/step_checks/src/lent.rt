@@ -1,8 +1,9 @@
 // Lent memory: the lengths that refusal 1 asks for, and the list of calls that a wait writes.
 ghost use Rattle.std.specs.Prelude.{◌≡◌, ◌&&◌, ◌≤◌, leb, length};
 ghost use Rattle.asyncio.specs.Limits.{object_limit};
-ghost use Rattle.contract.specs.Contract.{ObjectsLength};
 ghost use Rattle.step_checks.specs.Lent.{is_wait, slices_fit, WritesWait};
+
+use asyncio::{Objects};
 
 use exec_switch::answer::Answer;
 use exec_switch::control::Control;
@@ -67,8 +68,8 @@ fn is_wait(answer: Answer) -> bool
 
 // A wait writes the pending calls at the list's front, and it is told how many there are. After any other answer the list keeps its contents, and
 // there are 0.
-pub fn write_calls(objects: &[u64], calls: &mut [u64], answer: Answer) -> usize
-    requires { ObjectsLength objects.now × (object_limit ≤ length calls.old) }
+pub fn write_calls(objects: &Objects, calls: &mut [u64], answer: Answer) -> usize
+    requires { (object_limit ≤ length calls.old) }
     ensures { WritesWait objects.now calls answer result }
 {
     if is_wait(answer) {

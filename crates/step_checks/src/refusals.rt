@@ -8,9 +8,9 @@ ghost use Rattle.machine.specs.Scheduler.{live};
 ghost use Rattle.step_checks.specs.Checked.{turn_of};
 ghost use Rattle.machine.specs.Machine.{any_of, result_unknown, bad_result};
 ghost use Rattle.exec_futures.specs.Results.{result_at, results_in};
-ghost use Rattle.contract.specs.Contract.{ObjectsLength, Lengths₂, kept, before, ReadsObjects};
+ghost use Rattle.contract.specs.Contract.{kept, before, ReadsObjects};
 
-use asyncio::{CALLS, HeapId, Moment, RESULT_BYTES, TaskId, U32_LIMIT};
+use asyncio::{CALLS, HeapId, Moment, Objects, RESULT_BYTES, TaskId, Tasks, U32_LIMIT};
 
 const OBJECTS: u16 = asyncio::OBJECTS as u16;
 
@@ -22,8 +22,7 @@ pub enum Turn {
 }
 
 // An event of running: 3 after the session's end, 4 while the host has control.
-pub fn running(objects: &[u64]) -> Turn
-    requires { ObjectsLength objects.now }
+pub fn running(objects: &Objects) -> Turn
     ensures { result ≡ turn_of (header_at objects.now).moment }
 {
     let header = rows::tables::load_header(objects);
@@ -36,8 +35,7 @@ pub fn running(objects: &[u64]) -> Turn
 }
 
 // 7: are all objects made that there are numbers for?
-pub fn is_full(objects: &[u64]) -> bool
-    requires { ObjectsLength objects.now }
+pub fn is_full(objects: &Objects) -> bool
     ensures { result ≡ leb object_limit (header_at objects.now).made }
 {
     let header = rows::tables::load_header(objects);
@@ -45,8 +43,7 @@ pub fn is_full(objects: &[u64]) -> bool
 }
 
 // 8: are all call numbers handed out?
-pub fn no_number(objects: &[u64]) -> bool
-    requires { ObjectsLength objects.now }
+pub fn no_number(objects: &Objects) -> bool
     ensures { result ≡ leb call_limit (header_at objects.now).calls }
 {
     let header = rows::tables::load_header(objects);
@@ -69,8 +66,7 @@ pub fn any_unmade(made: u16, items: &[u16]) -> bool
 }
 
 // Is task `t` not live? A number that no task has is not, however large it is.
-pub fn not_live(tasks: &[u64], objects: &[u64], t: u16) -> bool
-    requires { Lengths₂ tasks.now objects.now }
+pub fn not_live(tasks: &Tasks, objects: &Objects, t: u16) -> bool
     ensures { (ps : List ℕ) (q : ReadyQueue) (l : List LogEntry)
         → result ≡ not (live (before (kept tasks.now) (kept objects.now) (kept ps) q l) t) }
 {
@@ -83,9 +79,8 @@ pub fn not_live(tasks: &[u64], objects: &[u64], t: u16) -> bool
 }
 
 // Is the result at byte `at` a returned list of a gather that is not completed?
-fn result_unknown(objects: &[u64], made: u16, results: &[u8], at: usize) -> bool
-    requires { ObjectsLength objects.now × (made ≤ object_limit)
-        × (at + 14 ≤ length results.now) × ((header_at objects.now).made ≡ made) }
+fn result_unknown(objects: &Objects, made: u16, results: &[u8], at: usize) -> bool
+    requires { (made ≤ object_limit) × (at + 14 ≤ length results.now) × ((header_at objects.now).made ≡ made) }
     ensures { ReadsObjects objects.now
         (λ s. result_unknown s (result_at results.now at)) result }
 {
@@ -104,8 +99,7 @@ fn result_unknown(objects: &[u64], made: u16, results: &[u8], at: usize) -> bool
 }
 
 // Is one of the results such a list?
-pub fn any_unknown(objects: &[u64], results: &[u8]) -> bool
-    requires { ObjectsLength objects.now }
+pub fn any_unknown(objects: &Objects, results: &[u8]) -> bool
     ensures { ReadsObjects objects.now
         (λ s. any_of (result_unknown s) (results_in results.now)) result }
 {

@@ -2,14 +2,13 @@
 // It asks its caller for a sound store, and checks nothing of it.
 #![tactic(auto)]
 
-ghost use Rattle.contract.specs.Contract.{Lengths};
 ghost use Rattle.contract.specs.Entries.{SoundMemory};
 ghost use Rattle.exec_switch.specs.Answer.{Answers};
 ghost use Rattle.step_checks.specs.Checked.{checked};
 ghost use Rattle.step_event.specs.EventOf.{event_of};
 ghost use Rattle.step_event.specs.LentStep.{LentStep};
 
-use asyncio::{Value};
+use asyncio::{Objects, Places, Tasks, Value};
 use exec_switch::answer::{Answer, Stepped};
 use queue::ReadyQueue;
 
@@ -39,15 +38,14 @@ pub struct Answered {
 
 // The event with its refusals from 3 on, in the order of document 01's table.
 fn checked(
-    tasks: &mut [u64],
-    objects: &mut [u64],
-    places: &mut [u64],
+    tasks: &mut Tasks,
+    objects: &mut Objects,
+    places: &mut Places,
     queue: ReadyQueue,
     event: Event,
     items: &[u16],
     results: &[u8],
 ) -> Stepped
-    requires { Lengths tasks.old objects.old places.old }
     ensures { Answers tasks objects places queue (λ s. checked s (event_of items.now results.now event)) result }
 {
     match event {

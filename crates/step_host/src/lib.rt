@@ -5,12 +5,12 @@ ghost use Rattle.std.specs.Prelude.{◌≡◌};
 ghost use Rattle.rows.specs.Tables.{header_at};
 ghost use Rattle.machine.specs.Sound.{is_ended};
 ghost use Rattle.machine.specs.Machine.{Event};
-ghost use Rattle.contract.specs.Contract.{kept, ObjectsLength, Lengths, Lengths₂};
+ghost use Rattle.contract.specs.Contract.{kept};
 ghost use Rattle.exec_switch.specs.Answer.{Answers, AnswersKeepingPlaces};
 ghost use Rattle.exec_futures.specs.Results.{results_in};
 ghost use Rattle.step_checks.specs.Checked.{checked};
 
-use asyncio::{Moment, RESULT_BYTES, RESULTS, TaskId};
+use asyncio::{Moment, Objects, Places, RESULTS, RESULT_BYTES, TaskId, Tasks};
 use exec_ends::resume_with_resolved_futures;
 use exec_futures::results::apply_future_results;
 use exec_switch::answer::{Answer, Stepped};
@@ -19,8 +19,7 @@ use scheduler_cancel::cancel::cancel_task;
 use step_checks::refusals::{any_bad, any_unknown, not_live};
 
 // Has the session ended?
-fn is_ended(objects: &[u64]) -> bool
-    requires { ObjectsLength objects.now }
+fn is_ended(objects: &Objects) -> bool
     ensures { result ≡ is_ended (header_at objects.now).moment }
 {
     let header = rows::tables::load_header(objects);
@@ -34,13 +33,12 @@ fn is_ended(objects: &[u64]) -> bool
 
 // The host answers calls. All checks come before the first result is applied.
 pub fn results(
-    tasks: &mut [u64],
-    objects: &mut [u64],
-    places: &mut [u64],
+    tasks: &mut Tasks,
+    objects: &mut Objects,
+    places: &mut Places,
     queue: ReadyQueue,
     results: &[u8],
 ) -> Stepped
-    requires { Lengths tasks.old objects.old places.old }
     ensures { Answers tasks objects places queue (λ s. checked s (Event.results (results_in results.now))) result }
 {
     if is_ended(objects) {
@@ -75,8 +73,7 @@ pub fn results(
 }
 
 // The host hands control back.
-pub fn resume(tasks: &mut [u64], objects: &mut [u64], queue: ReadyQueue) -> Stepped
-    requires { Lengths₂ tasks.old objects.old }
+pub fn resume(tasks: &mut Tasks, objects: &mut Objects, queue: ReadyQueue) -> Stepped
     ensures { AnswersKeepingPlaces tasks objects queue (λ s. checked s Event.resume) result }
 {
     let header = rows::tables::load_header(objects);
@@ -98,13 +95,12 @@ pub fn resume(tasks: &mut [u64], objects: &mut [u64], queue: ReadyQueue) -> Step
 // Cancelled, with the number of removed tasks that stood in the ready queue. Refused with 3 after the session's end, 4 while a task runs, 5 where `t`
 // is not live, 9 where it is main. The objects and the places stay as they were, refused or not: what a task that went awaited stays awaited.
 pub fn cancel(
-    tasks: &mut [u64],
-    objects: &[u64],
-    places: &[u64],
+    tasks: &mut Tasks,
+    objects: &Objects,
+    places: &Places,
     queue: ReadyQueue,
     t: u16,
 ) -> Stepped
-    requires { Lengths tasks.old objects.now places.now }
     ensures { Answers tasks (kept objects.now) (kept places.now) queue (λ s. checked s (Event.cancel t)) result }
 {
     let header = rows::tables::load_header(objects);

@@ -5,10 +5,9 @@ ghost use Rattle.std.specs.Prelude.{◌≡◌, ◌||◌, ◌≤◌, ◌+◌, ltb
 ghost use Rattle.asyncio.specs.Limits.{object_limit, item_limit, place_limit};
 ghost use Rattle.machine.specs.Machine.{Event};
 ghost use Rattle.step_checks.specs.Checked.{checked};
-ghost use Rattle.contract.specs.Contract.{ObjectsLength, PlacesLength};
 ghost use Rattle.exec_switch.specs.Answer.{AnswersOfObjects, AnswersOfObjectsAndPlaces};
 
-use asyncio::{CallId, Value};
+use asyncio::{CallId, Objects, Places, Value};
 use exec_futures::making::{allocate_call_id, make_coroutine, make_gather, push_pending_future, settled_awaitable};
 use exec_switch::answer::Answer;
 use scheduler::tasks::{take_pending_external};
@@ -22,8 +21,7 @@ const ITEMS: usize = asyncio::ITEMS as usize;
 const PLACES: usize = asyncio::PLACES as usize;
 
 // A coroutine of a function is made.
-pub fn coroutine(objects: &mut [u64], function: u32) -> Answer
-    requires { ObjectsLength objects.old }
+pub fn coroutine(objects: &mut Objects, function: u32) -> Answer
     ensures { AnswersOfObjects objects
         (λ s. checked s (Event.coroutine function)) result }
 {
@@ -41,8 +39,7 @@ pub fn coroutine(objects: &mut [u64], function: u32) -> Answer
 }
 
 // A call number is handed out.
-pub fn call(objects: &mut [u64]) -> Answer
-    requires { ObjectsLength objects.old }
+pub fn call(objects: &mut Objects) -> Answer
     ensures { AnswersOfObjects objects (λ s. checked s Event.call) result }
 {
     let turn = running(objects);
@@ -59,8 +56,7 @@ pub fn call(objects: &mut [u64]) -> Answer
 }
 
 // An external of a call is made pending, with a stored result or none.
-pub fn pending(objects: &mut [u64], call: u32, stored: Option<Value>) -> Answer
-    requires { ObjectsLength objects.old }
+pub fn pending(objects: &mut Objects, call: u32, stored: Option<Value>) -> Answer
     ensures { AnswersOfObjects objects
         (λ s. checked s (Event.pending call stored)) result }
 {
@@ -92,8 +88,7 @@ pub fn pending(objects: &mut [u64], call: u32, stored: Option<Value>) -> Answer
 }
 
 // An external that has its value already.
-pub fn settled(objects: &mut [u64], value: Value) -> Answer
-    requires { ObjectsLength objects.old }
+pub fn settled(objects: &mut Objects, value: Value) -> Answer
     ensures { AnswersOfObjects objects
         (λ s. checked s (Event.settled value)) result }
 {
@@ -118,8 +113,7 @@ pub fn settled(objects: &mut [u64], value: Value) -> Answer
 }
 
 // A gather of objects.
-pub fn gather(objects: &mut [u64], places: &mut [u64], items: &[u16]) -> Answer
-    requires { ObjectsLength objects.old × PlacesLength places.old }
+pub fn gather(objects: &mut Objects, places: &mut Places, items: &[u16]) -> Answer
     ensures { AnswersOfObjectsAndPlaces objects places
         (λ s. checked s (Event.gather items.now)) result }
 {

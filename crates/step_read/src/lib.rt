@@ -5,10 +5,9 @@ ghost use Rattle.std.specs.Prelude.{◌≡◌};
 ghost use Rattle.asyncio.specs.declared.CallId.{CallId};
 ghost use Rattle.machine.specs.Store.{Store};
 ghost use Rattle.machine.specs.Machine.{shown};
-ghost use Rattle.contract.specs.Contract.{ObjectsLength};
 ghost use Rattle.step_read.specs.Reads.{shown_of, ShowsChecked, EagerChecked};
 
-use asyncio::{CoroutineState, Error, ExternalFutureState, GatherState, HeapId, Object, Value};
+use asyncio::{CoroutineState, Error, ExternalFutureState, GatherState, HeapId, Object, Objects, Value};
 use exec_switch::answer::Answer;
 use queue::ReadyQueue;
 use scheduler::cleanup::can_await_eagerly;
@@ -91,8 +90,7 @@ fn show_object(x: Object) -> Shown
 }
 
 // What object `o` shows, or 5.
-pub fn show(objects: &[u64], o: u16) -> Reading
-    requires { ObjectsLength objects.now }
+pub fn show(objects: &Objects, o: u16) -> Reading
     ensures { ShowsChecked objects.now o result }
 {
     let header = rows::tables::load_header(objects);
@@ -104,8 +102,7 @@ pub fn show(objects: &[u64], o: u16) -> Reading
 }
 
 // May the host answer a call at once?
-pub fn eager(objects: &[u64], queue: ReadyQueue) -> Answer
-    requires { ObjectsLength objects.now }
+pub fn eager(objects: &Objects, queue: ReadyQueue) -> Answer
     ensures { EagerChecked objects.now queue result }
 {
     Answer::Eager(can_await_eagerly(objects, queue))

@@ -2,11 +2,10 @@
 #![tactic(auto)]
 
 ghost use Rattle.machine.specs.Machine.{Event};
-ghost use Rattle.contract.specs.Contract.{Lengths, Lengths₂};
 ghost use Rattle.exec_switch.specs.Answer.{Answers, AnswersKeepingPlaces};
 ghost use Rattle.step_checks.specs.Checked.{checked};
 
-use asyncio::{Error, HeapId, Value};
+use asyncio::{Error, HeapId, Objects, Places, Tasks, Value};
 use exec_await::exec_get_awaitable;
 use exec_switch::answer::{Answer, Stepped};
 use queue::ReadyQueue;
@@ -15,13 +14,12 @@ use step_checks::refusals::{Turn, running};
 
 // The running task awaits an object.
 pub fn await_object(
-    tasks: &mut [u64],
-    objects: &mut [u64],
-    places: &mut [u64],
+    tasks: &mut Tasks,
+    objects: &mut Objects,
+    places: &mut Places,
     queue: ReadyQueue,
     o: u16,
 ) -> Stepped
-    requires { Lengths tasks.old objects.old places.old }
     ensures { Answers tasks objects places queue (λ s. checked s (Event.await o)) result }
 {
     let turn = running(objects);
@@ -62,13 +60,12 @@ pub fn await_object(
 
 // The running task completes with a value.
 pub fn complete(
-    tasks: &mut [u64],
-    objects: &mut [u64],
-    places: &mut [u64],
+    tasks: &mut Tasks,
+    objects: &mut Objects,
+    places: &mut Places,
     queue: ReadyQueue,
     value: Value,
 ) -> Stepped
-    requires { Lengths tasks.old objects.old places.old }
     ensures { Answers tasks objects places queue (λ s. checked s (Event.complete value)) result }
 {
     let turn = running(objects);
@@ -91,8 +88,7 @@ pub fn complete(
 }
 
 // The running task fails with the error script n.
-pub fn fail(tasks: &mut [u64], objects: &mut [u64], queue: ReadyQueue, n: u32) -> Stepped
-    requires { Lengths₂ tasks.old objects.old }
+pub fn fail(tasks: &mut Tasks, objects: &mut Objects, queue: ReadyQueue, n: u32) -> Stepped
     ensures { AnswersKeepingPlaces tasks objects queue (λ s. checked s (Event.fail n)) result }
 {
     let turn = running(objects);
