@@ -5,7 +5,6 @@ use Rattle.std.proofs.Common.{sym, subst}
 use denote.Triple.Both.{Both}
 use denote.MutBor.{MutBor}
 use Rattle.asyncio.specs.Limits.{tasks_length, objects_length, places_length}
-use Rattle.queue.specs.Queue.{queue_of}
 use Rattle.queue.specs.declared.ReadyQueue.{ReadyQueue}
 use Rattle.machine.specs.Store.{Store, LogEntry, store_of}
 
@@ -23,19 +22,14 @@ Slice = Both (MutBor Words) (MutBor Words)
 abbrev pub kept : {A : Type 0} → A → Both (MutBor A) (MutBor A)
 kept {A} ws = let x : MutBor A = record { ref_ptr = (0, 0); ghost_name = 0; now = ws } in record { entry = x; exit = x }
 
--- ---- a lent queue: its array and its count
+-- ---- a lent queue, which the call may change, in an `ensures`
 
--- the count
+abbrev pub LentQueue : Type 0
+LentQueue = Both (MutBor ReadyQueue) (MutBor ReadyQueue)
+
+-- a number that the call may change
 abbrev pub Count : Type 0
 Count = Both (MutBor ℕ) (MutBor ℕ)
-
--- the queue before the call
-abbrev pub queue_before : Slice → Count → ReadyQueue
-queue_before ids len = queue_of ids.entry.now len.entry.now
-
--- the queue after the call
-abbrev pub queue_after : Slice → Count → ReadyQueue
-queue_after ids len = queue_of ids.exit.now len.exit.now
 
 -- ---- what a call asks: the slices have document 01's lengths
 

@@ -7,7 +7,8 @@ ghost use Rattle.machine.specs.Events.{stays, raises, go_on, await_coroutine, aw
 ghost use Rattle.exec_poll.specs.Polls.{poll_of};
 ghost use Rattle.exec_await.specs.Awaits.{AwaitsKeepingPlaces, AwaitsOfObjects, AwaitsOfNothing, Awaits};
 
-use asyncio::{Awaiter, CallId, CoroutineState, Error, ExternalFutureState, GatherState, HeapId, Object, Objects, Places, TASKS, TaskId, Tasks, Value};
+use asyncio::{Awaiter, CallId, CoroutineState, Error, ExternalFutureState, GatherState, HeapId, Object, Objects, Places, TaskId, Tasks, Value};
+use queue::ReadyQueue;
 use exec_commit::tree::commit_gather_tree;
 use exec_poll::item::{Poll, await_external};
 use exec_switch::control::{Control, How};
@@ -25,15 +26,14 @@ pub struct Awaited {
 fn go_on(
     tasks: &mut Tasks,
     objects: &mut Objects,
-    ids: &mut [u16; TASKS],
-    len: &mut usize,
+    queue: &mut ReadyQueue,
     t: TaskId,
     o: HeapId,
     steps: u16,
     poll: Poll,
 ) -> Awaited
     requires { t.0 < task_limit }
-    ensures { AwaitsKeepingPlaces tasks objects ids len
+    ensures { AwaitsKeepingPlaces tasks objects queue
         (λ s. go_on t.0 o.0 steps s (poll_of poll)) result }
 {
     match poll {
@@ -53,7 +53,7 @@ fn go_on(
         },
         Poll::Pending => {
             block_current_on(tasks, t, o);
-            let control = switch_or_yield(tasks, objects, ids, len);
+            let control = switch_or_yield(tasks, objects, queue);
             Awaited { control, steps }
         }
     }
@@ -67,7 +67,7 @@ fn await_coroutine(
     function: u32,
     state: CoroutineState,
 ) -> Awaited
-    requires { (o.0 < object_limit) }
+    requires { o.0 < object_limit }
     ensures { AwaitsOfObjects objects
         (λ s. await_coroutine s t.0 o.0 function state) result }
 {
@@ -111,19 +111,18 @@ fn raise(t: TaskId, error: Error) -> Awaited
 fn await_external_future(
     tasks: &mut Tasks,
     objects: &mut Objects,
-    ids: &mut [u16; TASKS],
-    len: &mut usize,
+    queue: &mut ReadyQueue,
     t: TaskId,
     o: HeapId,
     call: CallId,
     state: ExternalFutureState,
 ) -> Awaited
     requires { t.0 < task_limit × o.0 < object_limit }
-    ensures { AwaitsKeepingPlaces tasks objects ids len
+    ensures { AwaitsKeepingPlaces tasks objects queue
         (λ s. await_external_future s t.0 o.0 call state) result }
 {
     let poll = await_external(objects, o, call, state, Awaiter::Task(t));
-    go_on(tasks, objects, ids, len, t, o, 0, poll)
+    go_on(tasks, objects, queue, t, o, 0, poll)
 }
 
 // A pending gather is committed. A settled one gives what it has.
@@ -131,22 +130,21 @@ fn await_gather_future(
     tasks: &mut Tasks,
     objects: &mut Objects,
     places: &mut Places,
-    ids: &mut [u16; TASKS],
-    len: &mut usize,
+    queue: &mut ReadyQueue,
     t: TaskId,
     o: HeapId,
     state: GatherState,
 ) -> Awaited
     requires { t.0 < task_limit × o.0 < object_limit }
-    ensures { Awaits tasks objects places ids len
+    ensures { Awaits tasks objects places queue
         (λ s. await_gather s t.0 o.0 state) result }
 {
     match state {
         GatherState::Pending => {
-            let c = commit_gather_tree(tasks, objects, places, ids, len, o, Awaiter::Task(t));
+            let c = commit_gather_tree(tasks, objects, places, queue, o, Awaiter::Task(t));
             let poll = c.poll;
             let steps = c.steps;
-            go_on(tasks, objects, ids, len, t, o, steps, poll)
+            go_on(tasks, objects, queue, t, o, steps, poll)
         }
         GatherState::Awaited {
             awaiter: _,
@@ -168,13 +166,12 @@ pub fn exec_get_awaitable(
     tasks: &mut Tasks,
     objects: &mut Objects,
     places: &mut Places,
-    ids: &mut [u16; TASKS],
-    len: &mut usize,
+    queue: &mut ReadyQueue,
     t: TaskId,
     o: HeapId,
 ) -> Awaited
     requires { t.0 < task_limit × o.0 < object_limit }
-    ensures { Awaits tasks objects places ids len
+    ensures { Awaits tasks objects places queue
         (λ s. exec_get_awaitable s t.0 o.0) result }
 {
     let x = rows::tables::load_object(objects, o);
@@ -185,12 +182,12 @@ pub fn exec_get_awaitable(
         },
         Object::Coroutine { function, state } => { await_coroutine(objects, t, o, function, state) }
         Object::ExternalFuture { call, state } => {
-            await_external_future(tasks, objects, ids, len, t, o, call, state)
+            await_external_future(tasks, objects, queue, t, o, call, state)
         }
         Object::GatherFuture {
             first: _,
             count: _,
             state,
-        } => await_gather_future(tasks, objects, places, ids, len, t, o, state),
+        } => await_gather_future(tasks, objects, places, queue, t, o, state),
     }
 }

@@ -7,7 +7,7 @@ use Rattle.machine.specs.Store.{Store, LogEntry, store_of}
 use Rattle.machine.specs.Commit.{Poll, Frame, unwind}
 use Rattle.machine.specs.Commit as machine
 use Rattle.machine_laws.specs.Statements.{commit_rest}
-use Rattle.contract.specs.Contract.{Slice, Count, queue_before, queue_after, Does}
+use Rattle.contract.specs.Contract.{Slice, Does, LentQueue}
 use Rattle.exec_poll.specs.Polls.{poll_of}
 use Rattle.exec_commit.specs.Steps.{frame}
 use Rattle.exec_commit.specs.declared.tree.Committed.{Committed}
@@ -53,7 +53,7 @@ Unwinds objects g gathers depth error =
     store_of ts objects.exit.now ps q l ≡ unwind (store_of ts objects.entry.now ps q l) (frame g n ∷ below gathers ns depth) error
 
 -- The call commits, as f does, with a lent queue.
-abbrev pub Commits : Slice → Slice → Slice → Slice → Count → (Store → machine.Committed) → Committed → Type 0
-Commits tasks objects places ids len f r =
-    Does (λ x. x.store.log) tasks objects places (queue_before ids len) (queue_after ids len)
+abbrev pub Commits : Slice → Slice → Slice → LentQueue → (Store → machine.Committed) → Committed → Type 0
+Commits tasks objects places queue f r =
+    Does (λ x. x.store.log) tasks objects places queue.entry.now queue.exit.now
     (λ s. commit_result s (poll_of r.poll) r.steps) (λ s. result_of (f s))

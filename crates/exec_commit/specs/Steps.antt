@@ -6,7 +6,7 @@ use Rattle.machine.specs.Store.{Store, LogEntry, store_of, object}
 use Rattle.machine.specs.Scheduler.{bit, as_awaited}
 use Rattle.machine.specs.Commit.{at_end, at_nested, at_error, step_item, step_items, Frame}
 use Rattle.machine.specs.Commit as machine
-use Rattle.contract.specs.Contract.{Slice, Count, queue_before, queue_after, kept, before, after, Does}
+use Rattle.contract.specs.Contract.{Slice, kept, before, after, Does, LentQueue}
 use Rattle.exec_commit.specs.declared.step.ItemStep.{ItemStep}
 use Rattle.exec_commit.specs.declared.step.Stop.{Stop}
 
@@ -59,12 +59,12 @@ StepsPlace objects places i f r =
     stepped (after (kept ts) objects places q l) i r go ≡ f (before (kept ts) objects places q l) go
 
 -- The call steps the item of place i, as f does, with a lent queue. What has happened does not hang on how the walk goes on.
-abbrev pub StepsTo : Slice → Slice → Slice → Slice → Count → ℕ → (Store → Goes → machine.Stop) → ItemStep → Type 0
-StepsTo tasks objects places ids len i f r =
+abbrev pub StepsTo : Slice → Slice → Slice → LentQueue → ℕ → (Store → Goes → machine.Stop) → ItemStep → Type 0
+StepsTo tasks objects places queue i f r =
     (l : List LogEntry) (go : Goes) →
-    stepped (after tasks objects places (queue_after ids len) (stop_log (f (before tasks objects places (queue_before ids len) l) at_end))) i r go
-    ≡ f (before tasks objects places (queue_before ids len) l) go
+    stepped (after tasks objects places queue.exit.now (stop_log (f (before tasks objects places queue.entry.now l) at_end))) i r go
+    ≡ f (before tasks objects places queue.entry.now l) go
 
 -- The call walks through the items of a gather and stops, as f does.
-abbrev pub StopsAt : Slice → Slice → Slice → Slice → Count → (Store → machine.Stop) → Stop → Type 0
-StopsAt tasks objects places ids len f r = Does stop_log tasks objects places (queue_before ids len) (queue_after ids len) (λ s. stopped s r) f
+abbrev pub StopsAt : Slice → Slice → Slice → LentQueue → (Store → machine.Stop) → Stop → Type 0
+StopsAt tasks objects places queue f r = Does stop_log tasks objects places queue.entry.now queue.exit.now (λ s. stopped s r) f

@@ -37,7 +37,7 @@ fn with_state(o: Object, state: GatherState) -> Object
 
 // Gather `g` in that state.
 fn set_gather(objects: &mut Objects, g: HeapId, state: GatherState)
-    requires { (g.0 < object_limit) }
+    requires { g.0 < object_limit }
     ensures { ChangesObjects objects (λ s. set_gather s g.0 state) }
 {
     let o = rows::tables::load_object(objects, g);
@@ -47,7 +47,7 @@ fn set_gather(objects: &mut Objects, g: HeapId, state: GatherState)
 
 // Gather `g` is awaited, with no place open yet.
 pub(crate) fn open_gather_commit(objects: &mut Objects, g: HeapId, awaiter: Awaiter)
-    requires { (g.0 < object_limit) }
+    requires { g.0 < object_limit }
     ensures { ChangesObjects objects (λ s. open_gather_commit s g.0 awaiter) }
 {
     set_gather(
@@ -62,7 +62,7 @@ pub(crate) fn open_gather_commit(objects: &mut Objects, g: HeapId, awaiter: Awai
 
 // Gather `g`, whose items are all stepped: completed where no place is open, the empty gather included.
 pub(crate) fn settle_gather_commit(objects: &mut Objects, g: HeapId) -> Poll
-    requires { (g.0 < object_limit) }
+    requires { g.0 < object_limit }
     ensures { PollsOfObjects objects (λ s. settle_gather_commit s g.0) result }
 {
     let a = as_awaited(objects, g);

@@ -9,7 +9,8 @@ ghost use Rattle.exec_poll.specs.Polls.{poll_of};
 ghost use Rattle.exec_commit.specs.Steps.{with_bit, step_at, frame, StepsPlace, StepsTo, StopsAt};
 ghost use Rattle.contract.specs.Contract.{ChangesObjects, ChangesPlaces};
 
-use asyncio::{Error, GatherState, HeapId, Object, Objects, Place, Places, TASKS, Tasks, Value};
+use asyncio::{Error, GatherState, HeapId, Object, Objects, Place, Places, Tasks, Value};
+use queue::ReadyQueue;
 use exec_poll::item::{ItemPoll, Poll, item};
 use scheduler_states::awaited::{AwaitedGather, as_awaited};
 
@@ -64,7 +65,7 @@ pub(crate) fn open_place(objects: &mut Objects, g: HeapId, w: AwaitedGather, i: 
 
 // Place `i` of the gather `w` has a value.
 pub(crate) fn fill_place(places: &mut Places, w: AwaitedGather, i: usize, value: Value)
-    requires { (w.first + i < place_limit) }
+    requires { w.first + i < place_limit }
     ensures { ChangesPlaces places (λ s. fill_place s (awaited_gather_of w) i value) }
 {
     let p = w.first as usize + i;
@@ -110,13 +111,12 @@ fn step_item(
     tasks: &mut Tasks,
     objects: &mut Objects,
     places: &mut Places,
-    ids: &mut [u16; TASKS],
-    len: &mut usize,
+    queue: &mut ReadyQueue,
     g: HeapId,
     i: usize,
 ) -> ItemStep
     requires { g.0 < object_limit × i < count_of (object_at objects.old g.0) }
-    ensures { StepsTo tasks objects places ids len i
+    ensures { StepsTo tasks objects places queue i
         (λ s go. step_at s g.0 i go) result }
 {
     let a = as_awaited(objects, g);
@@ -124,7 +124,7 @@ fn step_item(
         None => ItemStep::End,
         Some(w) => {
             let o = rows::parts::item_at(places, w.first as usize + i);
-            let polled = item(tasks, objects, places, ids, len, g, w, o);
+            let polled = item(tasks, objects, places, queue, g, w, o);
             match polled {
                 ItemPoll::Nested => ItemStep::Nested(o),
                 ItemPoll::Polled(poll) => put_polled(objects, places, g, w, i, poll),
@@ -138,19 +138,18 @@ pub(crate) fn step_gather_commit(
     tasks: &mut Tasks,
     objects: &mut Objects,
     places: &mut Places,
-    ids: &mut [u16; TASKS],
-    len: &mut usize,
+    queue: &mut ReadyQueue,
     g: HeapId,
     next: u16,
 ) -> Stop
     requires { g.0 < object_limit }
-    ensures { StopsAt tasks objects places ids len
+    ensures { StopsAt tasks objects places queue
         (λ s. step_gather_commit s (frame g.0 next)) result }
 {
     let count = rows::parts::count_at(objects, g);
     let mut i = next;
     while i < count {
-        let step = step_item(tasks, objects, places, ids, len, g, i as usize);
+        let step = step_item(tasks, objects, places, queue, g, i as usize);
         match step {
             ItemStep::Next => i += 1,
             ItemStep::End => return Stop::End,

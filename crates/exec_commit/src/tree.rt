@@ -9,7 +9,8 @@ use crate::settle::{
     open_gather_commit, resume_after_child, settle_gather_commit, unwind_gather_commits,
 };
 use crate::step::{Stop, step_gather_commit};
-use asyncio::{Awaiter, HeapId, Objects, Places, TASKS, Tasks};
+use asyncio::{Awaiter, HeapId, Objects, Places, Tasks};
+use queue::ReadyQueue;
 use exec_poll::item::Poll;
 
 // What the await sees after a commit, and the number of commit steps.
@@ -25,13 +26,12 @@ pub fn commit_gather_tree(
     tasks: &mut Tasks,
     objects: &mut Objects,
     places: &mut Places,
-    ids: &mut [u16; TASKS],
-    len: &mut usize,
+    queue: &mut ReadyQueue,
     root: HeapId,
     awaiter: Awaiter,
 ) -> Committed
     requires { root.0 < object_limit }
-    ensures { Commits tasks objects places ids len
+    ensures { Commits tasks objects places queue
         (λ s. commit_gather_tree s root.0 awaiter) result }
 {
     open_gather_commit(objects, root, awaiter);
@@ -42,7 +42,7 @@ pub fn commit_gather_tree(
     let mut next: u16 = 0;
     let mut steps: u16 = 0;
     loop {
-        let stop = step_gather_commit(tasks, objects, places, ids, len, g, next);
+        let stop = step_gather_commit(tasks, objects, places, queue, g, next);
         steps += 1;
         match stop {
             Stop::Nested { at, item } => {

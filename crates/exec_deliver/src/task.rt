@@ -5,12 +5,12 @@ ghost use Rattle.machine.specs.Delivery.{deliver_to_task};
 ghost use Rattle.contract.specs.Contract.{queue_before, queue_after};
 ghost use Rattle.exec_deliver.specs.Delivers.{queued, DeliversOfTasks};
 
-use asyncio::{TASKS, TaskId, TaskState, Tasks};
-use queue::push_lent;
+use asyncio::{TaskId, TaskState, Tasks};
+use queue::ReadyQueue;
 
 // A blocked task becomes ready with a value or an error: it was woken, and the caller queues it. Any other receives nothing.
 pub(crate) fn deliver_to_task(tasks: &mut Tasks, t: TaskId, state: TaskState) -> Option<TaskId>
-    requires { (t.0 < task_limit) }
+    requires { t.0 < task_limit }
     ensures { DeliversOfTasks tasks (λ s. deliver_to_task s t.0 state) result }
 {
     if scheduler_states::states::is_blocked(tasks, t) {
@@ -21,11 +21,11 @@ pub(crate) fn deliver_to_task(tasks: &mut Tasks, t: TaskId, state: TaskState) ->
 }
 
 // The task that a delivery woke goes to the back of a lent queue.
-pub fn queue_woken(ids: &mut [u16; TASKS], len: &mut usize, woken: Option<TaskId>)
-    ensures { queue_after ids len ≡ queued (queue_before ids len) woken }
+pub fn queue_woken(queue: &mut ReadyQueue, woken: Option<TaskId>)
+    ensures { queue.new ≡ queued queue.old woken }
 {
     match woken {
         None => {}
-        Some(t) => push_lent(ids, len, t),
+        Some(t) => queue.push_back(t),
     }
 }

@@ -9,38 +9,32 @@ ghost use Rattle.machine.specs.Machine.{task_completes, task_fails, resume_with_
 ghost use Rattle.exec_switch.specs.Answer.{Answers, AnswersKeepingPlaces};
 ghost use Rattle.exec_ends.specs.Ends.{Switches};
 
-use asyncio::{CoroutineState, Error, HeapId, Object, Objects, Places, TASKS, TaskId, Tasks, Value};
+use asyncio::{CoroutineState, Error, HeapId, Object, Objects, Places, TaskId, Tasks, Value};
 use exec_deliver::climb::deliver_awaiter_success;
 use exec_deliver::task::queue_woken;
-use exec_switch::answer::{Answer, Stepped};
+use exec_switch::answer::Answer;
 use exec_switch::control::Control;
 use exec_switch::cycle::{handle_task_failure, resume_after_task_exit, switch_or_yield};
 use queue::ReadyQueue;
 use scheduler::cleanup::{cleanup, no_call_pending};
-use scheduler_states::states::remove_task_lent;
+use scheduler_states::states::remove_task;
 
 // A coroutine that has completed. Any other object stays.
 fn completed(x: Object) -> Object
     ensures { result ≡ completed x }
 {
     match x {
-        Object::Unmade => x,
         Object::Coroutine { function, state: _ } => Object::Coroutine {
             function,
             state: CoroutineState::Completed,
         },
-        Object::ExternalFuture { call: _, state: _ } => x,
-        Object::GatherFuture {
-            first: _,
-            count: _,
-            state: _,
-        } => x,
+        _ => x,
     }
 }
 
 // The coroutine of a task that completed.
 fn complete_coroutine(objects: &mut Objects, c: HeapId)
-    requires { (c.0 < object_limit) }
+    requires { c.0 < object_limit }
     ensures { objects.new ≡ object_put objects.old c.0 (completed (object_at objects.old c.0)) }
 {
     let x = rows::tables::load_object(objects, c);
@@ -52,23 +46,22 @@ fn handle_task_completion(
     tasks: &mut Tasks,
     objects: &mut Objects,
     places: &mut Places,
-    ids: &mut [u16; TASKS],
-    len: &mut usize,
+    queue: &mut ReadyQueue,
     t: TaskId,
     value: Value,
 ) -> Control
     requires { t.0 < task_limit }
-    ensures { Switches tasks objects places ids len
+    ensures { Switches tasks objects places queue
         (λ s. handle_task_completion s t.0 value) result }
 {
     let task = rows::tables::load_task(tasks, t);
     let awaiter = task.awaiter;
     let coroutine = task.coroutine;
     complete_coroutine(objects, coroutine);
-    remove_task_lent(tasks, ids, len, t);
+    remove_task(tasks, queue, t);
     let woken = deliver_awaiter_success(tasks, objects, places, awaiter, value);
-    queue_woken(ids, len, woken);
-    resume_after_task_exit(tasks, objects, ids, len, woken)
+    queue_woken(queue, woken);
+    resume_after_task_exit(tasks, objects, queue, woken)
 }
 
 // Task `t` completes. Main's end is the session's.
@@ -76,86 +69,53 @@ pub fn complete(
     tasks: &mut Tasks,
     objects: &mut Objects,
     places: &mut Places,
-    queue: ReadyQueue,
+    queue: &mut ReadyQueue,
     t: TaskId,
     value: Value,
-) -> Stepped
+) -> Answer
     requires { t.0 < task_limit }
     ensures { Answers tasks objects places queue
         (λ s. task_completes s t.0 value) result }
 {
     if t.is_main() {
-        let q = cleanup(tasks, objects);
-        return Stepped {
-            queue: q,
-            answer: Answer::Finished(value),
-        };
+        cleanup(tasks, objects, queue);
+        return Answer::Finished(value);
     }
-    let mut q = queue;
-    let mut n = q.len;
-    let control = handle_task_completion(tasks, objects, places, &mut q.ids, &mut n, t, value);
-    q.len = n;
-    Stepped {
-        queue: q,
-        answer: Answer::Switched(control),
-    }
+    Answer::Switched(handle_task_completion(tasks, objects, places, queue, t, value))
 }
 
 // Task `t` fails. Main's end is the session's.
 pub fn fail(
     tasks: &mut Tasks,
     objects: &mut Objects,
-    queue: ReadyQueue,
+    queue: &mut ReadyQueue,
     t: TaskId,
     error: Error,
-) -> Stepped
+) -> Answer
     requires { t.0 < task_limit }
     ensures { AnswersKeepingPlaces tasks objects queue
         (λ s. task_fails s t.0 error) result }
 {
     if t.is_main() {
-        let q = cleanup(tasks, objects);
-        return Stepped {
-            queue: q,
-            answer: Answer::FinishedError(error),
-        };
+        cleanup(tasks, objects, queue);
+        return Answer::FinishedError(error);
     }
-    let mut q = queue;
-    let mut n = q.len;
-    let control = handle_task_failure(tasks, objects, &mut q.ids, &mut n, t, error);
-    q.len = n;
-    Stepped {
-        queue: q,
-        answer: Answer::Switched(control),
-    }
+    Answer::Switched(handle_task_failure(tasks, objects, queue, t, error))
 }
 
 // The next ready task runs on. Where none is ready nothing changes: the wait is repeated, or no call is pending.
 pub fn resume_with_resolved_futures(
     tasks: &mut Tasks,
     objects: &mut Objects,
-    queue: ReadyQueue,
-) -> Stepped
+    queue: &mut ReadyQueue,
+) -> Answer
     ensures { AnswersKeepingPlaces tasks objects queue resume_with_resolved_futures result }
 {
     if queue.len == 0 {
         if no_call_pending(objects) {
-            return Stepped {
-                queue,
-                answer: Answer::Stalled,
-            };
+            return Answer::Stalled;
         }
-        return Stepped {
-            queue,
-            answer: Answer::Switched(Control::Waits),
-        };
+        return Answer::Switched(Control::Waits);
     }
-    let mut q = queue;
-    let mut n = q.len;
-    let control = switch_or_yield(tasks, objects, &mut q.ids, &mut n);
-    q.len = n;
-    Stepped {
-        queue: q,
-        answer: Answer::Switched(control),
-    }
+    Answer::Switched(switch_or_yield(tasks, objects, queue))
 }

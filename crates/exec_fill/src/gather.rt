@@ -13,7 +13,7 @@ use scheduler_states::awaited::{as_awaited};
 
 // Object `g` is a gather with these places, in that state.
 fn put_gather(objects: &mut Objects, g: HeapId, first: u16, count: u16, state: GatherState)
-    requires { (g.0 < object_limit) }
+    requires { g.0 < object_limit }
     ensures { objects.new ≡ object_put objects.old g.0 (Object.GatherFuture first count state) }
 {
     store_object(
@@ -35,7 +35,7 @@ pub fn resolve_child(
     source: HeapId,
     value: Value,
 ) -> Option<Awaiter>
-    requires { (g.0 < object_limit) }
+    requires { g.0 < object_limit }
     ensures { Settles objects places
         (λ s. resolve_child s g.0 source.0 value) result }
 {
@@ -70,7 +70,7 @@ pub fn resolve_child(
 
 // The first failure of an awaited gather. One that is not awaited keeps its state.
 pub fn fail(objects: &mut Objects, g: HeapId, error: Error) -> Option<Awaiter>
-    requires { (g.0 < object_limit) }
+    requires { g.0 < object_limit }
     ensures { SettlesKeepingPlaces objects (λ s. fail_gather s g.0 error) result }
 {
     let a = as_awaited(objects, g);

@@ -95,7 +95,7 @@ pub fn settled_awaitable(objects: &mut Objects, value: Value) -> HeapId
 
 // The items in the places from `first` on.
 fn put_items(places: &mut Places, first: usize, items: &[u16])
-    requires { (first + length items.now ≤ place_limit) }
+    requires { first + length items.now ≤ place_limit }
     ensures { ChangesPlaces places (λ s. put_items s first items.now) }
 {
     let n = items.len();

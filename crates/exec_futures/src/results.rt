@@ -47,23 +47,18 @@ pub fn apply_future_results(
     tasks: &mut Tasks,
     objects: &mut Objects,
     places: &mut Places,
-    queue: ReadyQueue,
+    queue: &mut ReadyQueue,
     results: &[u8],
-) -> ReadyQueue
-    ensures { Changes tasks objects places queue result
+)
+    ensures { Changes tasks objects places queue.old queue.new
         (λ s. wake_in_order s (apply_future_results s (results_in results.now))) }
 {
     let n = results.len() / RESULT_BYTES;
     let stood = queue.len;
-    let mut left = queue;
-    let mut i: usize = 0;
-    while i < n {
+    for i in 0..n {
         let woken = apply_result(tasks, objects, places, results, i * RESULT_BYTES);
-        match woken {
-            None => {}
-            Some(t) => left = left.push_in_order(t, stood),
+        if let Some(t) = woken {
+            queue.push_in_order(t, stood);
         }
-        i += 1;
     }
-    left
 }

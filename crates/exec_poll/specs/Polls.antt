@@ -5,7 +5,7 @@ use Rattle.machine.specs.Store.{Store, object}
 use Rattle.machine.specs.Scheduler as scheduler
 use Rattle.machine.specs.Commit.{ready, raised, pending, gives, polled, nested, item_object, item}
 use Rattle.machine.specs.Commit as machine
-use Rattle.contract.specs.Contract.{Words, kept, Slice, Count, queue_before, queue_after, Does, DoesOfTasksAndObjects, DoesOfObjects}
+use Rattle.contract.specs.Contract.{Words, kept, Slice, Does, DoesOfTasksAndObjects, DoesOfObjects, LentQueue}
 use Rattle.exec_poll.specs.declared.item.Poll.{Poll}
 use Rattle.exec_poll.specs.declared.item.ItemPoll.{ItemPoll}
 
@@ -45,20 +45,20 @@ item_at s g w o = itemed s (item s g w o)
 -- ---- what a call does
 
 -- The call polls an awaitable, as f does, with a lent queue.
-abbrev pub Polls : Slice → Slice → Slice → Count → (Store → machine.Polled) → Poll → Type 0
-Polls tasks objects ids len f r =
-    DoesOfTasksAndObjects (λ x. x.store.log) tasks objects (queue_before ids len) (queue_after ids len) (λ s. gives s (poll_of r)) f
+abbrev pub Polls : Slice → Slice → LentQueue → (Store → machine.Polled) → Poll → Type 0
+Polls tasks objects queue f r =
+    DoesOfTasksAndObjects (λ x. x.store.log) tasks objects queue.entry.now queue.exit.now (λ s. gives s (poll_of r)) f
 
 -- The same of a call that takes the objects alone.
 abbrev pub PollsOfObjects : Slice → (Store → machine.Polled) → Poll → Type 0
 PollsOfObjects objects f r = DoesOfObjects objects (λ s. gives s (poll_of r)) f
 
 -- The call polls an item, as f does, with a lent queue.
-abbrev pub PollsItem : Slice → Slice → Slice → Count → (Store → Itemed) → ItemPoll → Type 0
-PollsItem tasks objects ids len f r =
-    DoesOfTasksAndObjects (λ x. x.store.log) tasks objects (queue_before ids len) (queue_after ids len) (λ s. with_item s r) f
+abbrev pub PollsItem : Slice → Slice → LentQueue → (Store → Itemed) → ItemPoll → Type 0
+PollsItem tasks objects queue f r =
+    DoesOfTasksAndObjects (λ x. x.store.log) tasks objects queue.entry.now queue.exit.now (λ s. with_item s r) f
 
 -- The same of a call that takes the places, too.
-abbrev pub PollsItemOfPlaces : Slice → Slice → Words → Slice → Count → (Store → Itemed) → ItemPoll → Type 0
-PollsItemOfPlaces tasks objects places ids len f r =
-    Does (λ x. x.store.log) tasks objects (kept places) (queue_before ids len) (queue_after ids len) (λ s. with_item s r) f
+abbrev pub PollsItemOfPlaces : Slice → Slice → Words → LentQueue → (Store → Itemed) → ItemPoll → Type 0
+PollsItemOfPlaces tasks objects places queue f r =
+    Does (λ x. x.store.log) tasks objects (kept places) queue.entry.now queue.exit.now (λ s. with_item s r) f

@@ -7,7 +7,8 @@ ghost use Rattle.machine.specs.Commit.{await_external, item_coroutine, item_gath
 ghost use Rattle.scheduler_states.specs.Awaited.{awaited_gather_of};
 ghost use Rattle.exec_poll.specs.Polls.{with_item, itemed, item_at, item_here, PollsOfObjects, Polls, PollsItem, PollsItemOfPlaces};
 
-use asyncio::{Awaiter, CallId, CoroutineState, Error, ExternalFutureState, GatherState, HeapId, Object, Objects, Places, TASKS, Tasks, Value};
+use asyncio::{Awaiter, CallId, CoroutineState, Error, ExternalFutureState, GatherState, HeapId, Object, Objects, Places, Tasks, Value};
+use queue::ReadyQueue;
 use scheduler_states::awaited::AwaitedGather;
 use scheduler_states::places::is_open;
 
@@ -34,7 +35,7 @@ pub fn await_external(
     state: ExternalFutureState,
     awaiter: Awaiter,
 ) -> Poll
-    requires { (o.0 < object_limit) }
+    requires { o.0 < object_limit }
     ensures { PollsOfObjects objects
         (λ s. await_external s o.0 call state awaiter) result }
 {
@@ -65,18 +66,17 @@ pub fn await_external(
 fn item_coroutine(
     tasks: &mut Tasks,
     objects: &mut Objects,
-    ids: &mut [u16; TASKS],
-    len: &mut usize,
+    queue: &mut ReadyQueue,
     g: HeapId,
     o: HeapId,
     state: CoroutineState,
 ) -> Poll
-    ensures { Polls tasks objects ids len
+    ensures { Polls tasks objects queue
         (λ s. item_coroutine s g.0 o.0 state) result }
 {
     match state {
         CoroutineState::New => {
-            let spawned = scheduler::spawn::spawn(tasks, objects, ids, len, o, g);
+            let spawned = scheduler::spawn::spawn(tasks, objects, queue, o, g);
             if spawned {
                 return Poll::Pending;
             }
@@ -106,19 +106,18 @@ fn item_gather(o: HeapId, state: GatherState) -> ItemPoll
 fn item_object(
     tasks: &mut Tasks,
     objects: &mut Objects,
-    ids: &mut [u16; TASKS],
-    len: &mut usize,
+    queue: &mut ReadyQueue,
     g: HeapId,
     o: HeapId,
 ) -> ItemPoll
     requires { o.0 < object_limit }
-    ensures { PollsItem tasks objects ids len (λ s. item_here s g.0 o.0) result }
+    ensures { PollsItem tasks objects queue (λ s. item_here s g.0 o.0) result }
 {
     let x = rows::tables::load_object(objects, o);
     match x {
         Object::Unmade => ItemPoll::Polled(Poll::Pending),
         Object::Coroutine { function: _, state } => {
-            let poll = item_coroutine(tasks, objects, ids, len, g, o, state);
+            let poll = item_coroutine(tasks, objects, queue, g, o, state);
             ItemPoll::Polled(poll)
         }
         Object::ExternalFuture { call, state } => {
@@ -147,18 +146,17 @@ pub fn item(
     tasks: &mut Tasks,
     objects: &mut Objects,
     places: &Places,
-    ids: &mut [u16; TASKS],
-    len: &mut usize,
+    queue: &mut ReadyQueue,
     g: HeapId,
     w: AwaitedGather,
     o: HeapId,
 ) -> ItemPoll
     requires { PlacesFit w.first w.count × o.0 < object_limit }
-    ensures { PollsItemOfPlaces tasks objects places.now ids len
+    ensures { PollsItemOfPlaces tasks objects places.now queue
         (λ s. item_at s g.0 (awaited_gather_of w) o.0) result }
 {
     if is_open(places, w.first, w.count, w.open_places, o) {
         return ItemPoll::Polled(Poll::Pending);
     }
-    item_object(tasks, objects, ids, len, g, o)
+    item_object(tasks, objects, queue, g, o)
 }

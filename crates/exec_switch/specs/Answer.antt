@@ -1,13 +1,11 @@
 -- The answers, as the code gives them.
 use Rattle.std.specs.Prelude.{ℕ, List}
-use Rattle.queue.specs.declared.ReadyQueue.{ReadyQueue}
 use Rattle.machine.specs.Store.{Store}
 use Rattle.machine.specs.Scheduler.{pending_calls_in}
 use Rattle.machine.specs.Machine as machine
-use Rattle.contract.specs.Contract.{Slice, Does, DoesKeepingPlaces, DoesOfObjects, DoesOfObjectsAndPlaces}
+use Rattle.contract.specs.Contract.{Slice, LentQueue, Does, DoesKeepingPlaces, DoesOfObjects, DoesOfObjectsAndPlaces}
 use Rattle.exec_switch.specs.Control.{control_with}
 use Rattle.exec_switch.specs.declared.answer.Answer.{Answer}
-use Rattle.exec_switch.specs.declared.answer.Stepped.{Stepped}
 
 -- the answer: a wait with these calls
 abbrev pub answer_with : List ℕ → Answer → machine.Answer
@@ -32,12 +30,12 @@ abbrev pub stepped_of : Store → Answer → machine.Step
 stepped_of s a = record { store = s; answer = answer_of s.objects a }
 
 -- The call leaves and answers what f does.
-abbrev pub Answers : Slice → Slice → Slice → ReadyQueue → (Store → machine.Step) → Stepped → Type 0
-Answers tasks objects places queue f r = Does (λ x. x.store.log) tasks objects places queue r.queue (λ s. stepped_of s r.answer) f
+abbrev pub Answers : Slice → Slice → Slice → LentQueue → (Store → machine.Step) → Answer → Type 0
+Answers tasks objects places queue f r = Does (λ x. x.store.log) tasks objects places queue.entry.now queue.exit.now (λ s. stepped_of s r) f
 
 -- The same of a call that does not take the places.
-abbrev pub AnswersKeepingPlaces : Slice → Slice → ReadyQueue → (Store → machine.Step) → Stepped → Type 0
-AnswersKeepingPlaces tasks objects queue f r = DoesKeepingPlaces (λ x. x.store.log) tasks objects queue r.queue (λ s. stepped_of s r.answer) f
+abbrev pub AnswersKeepingPlaces : Slice → Slice → LentQueue → (Store → machine.Step) → Answer → Type 0
+AnswersKeepingPlaces tasks objects queue f r = DoesKeepingPlaces (λ x. x.store.log) tasks objects queue.entry.now queue.exit.now (λ s. stepped_of s r) f
 
 -- The same of a call that takes the objects alone, and logs nothing: with every queue.
 abbrev pub AnswersOfObjects : Slice → (Store → machine.Step) → Answer → Type 0

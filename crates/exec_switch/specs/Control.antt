@@ -10,7 +10,7 @@ use Rattle.queue.specs.declared.ReadyQueue.{ReadyQueue}
 use Rattle.machine.specs.Store.{Store, LogEntry}
 use Rattle.machine.specs.Scheduler.{pending_calls_in}
 use Rattle.machine.specs.Events as machine
-use Rattle.contract.specs.Contract.{Slice, Count, queue_before, queue_after, kept, DoesKeepingPlaces, DoesKeepingLogAt, DoesOfObjects}
+use Rattle.contract.specs.Contract.{Slice, kept, DoesKeepingPlaces, DoesKeepingLogAt, DoesOfObjects, LentQueue}
 use Rattle.scheduler.specs.Search.{FoundTask}
 use Rattle.exec_switch.specs.declared.control.How.{How}
 use Rattle.exec_switch.specs.declared.control.Control.{Control}
@@ -62,9 +62,9 @@ FoundFits None = Unit {0}
 -- ---- what a call does
 
 -- The call gives control to whom f gives it, with a lent queue, and does not take the places.
-abbrev pub SwitchesKeepingPlaces : Slice → Slice → Slice → Count → (Store → machine.Switched) → Control → Type 0
-SwitchesKeepingPlaces tasks objects ids len f r =
-    DoesKeepingPlaces (λ x. x.store.log) tasks objects (queue_before ids len) (queue_after ids len) (λ s. switched_of s r) f
+abbrev pub SwitchesKeepingPlaces : Slice → Slice → LentQueue → (Store → machine.Switched) → Control → Type 0
+SwitchesKeepingPlaces tasks objects queue f r =
+    DoesKeepingPlaces (λ x. x.store.log) tasks objects queue.entry.now queue.exit.now (λ s. switched_of s r) f
 
 -- The same of a call that takes no queue, and logs nothing.
 abbrev pub SwitchesKeepingLog : Slice → Slice → (Store → machine.Switched) → Control → Type 0

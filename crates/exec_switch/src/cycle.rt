@@ -8,14 +8,14 @@ ghost use Rattle.machine.specs.Events.{new_function, activate, start_task, handl
 ghost use Rattle.exec_switch.specs.Control.{function_of, FoundFits, SwitchesKeepingPlaces};
 
 use crate::control::{Control, How, run, yield_control};
-use asyncio::{CoroutineState, Error, HeapId, Object, Objects, TASKS, TaskId, TaskState, Tasks};
+use asyncio::{CoroutineState, Error, HeapId, Object, Objects, TaskId, TaskState, Tasks};
 use exec_deliver::climb::deliver_awaiter_failure;
 use exec_deliver::task::queue_woken;
-use queue::{front_lent, pop_lent, remove_lent};
-use scheduler_states::states::remove_task_lent;
+use queue::ReadyQueue;
+use scheduler_states::states::remove_task;
 
 fn new_function(objects: &Objects, c: HeapId) -> Option<u32>
-    requires { (c.0 < object_limit) }
+    requires { c.0 < object_limit }
     ensures { result ≡ function_of (new_function (object_at objects.now c.0)) }
 {
     let x = rows::tables::load_object(objects, c);
@@ -40,17 +40,16 @@ fn new_function(objects: &Objects, c: HeapId) -> Option<u32>
 fn activate_task(
     tasks: &mut Tasks,
     objects: &mut Objects,
-    ids: &mut [u16; TASKS],
-    len: &mut usize,
+    queue: &mut ReadyQueue,
     t: TaskId,
 ) -> Control
     requires { t.0 < task_limit }
-    ensures { SwitchesKeepingPlaces tasks objects ids len (λ s. activate s t.0) result }
+    ensures { SwitchesKeepingPlaces tasks objects queue (λ s. activate s t.0) result }
 {
     let state = rows::parts::state_at(tasks, t);
     match state {
         TaskState::Absent => yield_control(objects),
-        TaskState::Unstarted => start_task(tasks, objects, ids, len, t),
+        TaskState::Unstarted => start_task(tasks, objects, queue, t),
         TaskState::Running => yield_control(objects),
         TaskState::Woken(v) => run(tasks, objects, t, How::Value(v)),
         TaskState::Raised(e) => run(tasks, objects, t, How::Raised(e)),
@@ -63,12 +62,11 @@ fn activate_task(
 fn start_task(
     tasks: &mut Tasks,
     objects: &mut Objects,
-    ids: &mut [u16; TASKS],
-    len: &mut usize,
+    queue: &mut ReadyQueue,
     t: TaskId,
 ) -> Control
     requires { t.0 < task_limit }
-    ensures { SwitchesKeepingPlaces tasks objects ids len
+    ensures { SwitchesKeepingPlaces tasks objects queue
         (λ s. start_task activate s t.0) result }
 {
     let c = rows::parts::coroutine_at(tasks, t);
@@ -77,8 +75,7 @@ fn start_task(
         None => handle_task_failure(
             tasks,
             objects,
-            ids,
-            len,
+            queue,
             t,
             Error::CoroutineReuse,
         ),
@@ -109,20 +106,19 @@ fn start_task(
 pub fn handle_task_failure(
     tasks: &mut Tasks,
     objects: &mut Objects,
-    ids: &mut [u16; TASKS],
-    len: &mut usize,
+    queue: &mut ReadyQueue,
     t: TaskId,
     error: Error,
 ) -> Control
     requires { t.0 < task_limit }
-    ensures { SwitchesKeepingPlaces tasks objects ids len
+    ensures { SwitchesKeepingPlaces tasks objects queue
         (λ s. handle_task_failure activate s t.0 error) result }
 {
     let awaiter = rows::parts::task_awaiter_at(tasks, t);
     let woken = deliver_awaiter_failure(tasks, objects, awaiter, error);
-    queue_woken(ids, len, woken);
-    remove_task_lent(tasks, ids, len, t);
-    resume_after_task_exit(tasks, objects, ids, len, woken)
+    queue_woken(queue, woken);
+    remove_task(tasks, queue, t);
+    resume_after_task_exit(tasks, objects, queue, woken)
 }
 
 // The task that an exit woke goes ahead of the queue.
@@ -130,19 +126,18 @@ pub fn handle_task_failure(
 pub fn resume_after_task_exit(
     tasks: &mut Tasks,
     objects: &mut Objects,
-    ids: &mut [u16; TASKS],
-    len: &mut usize,
+    queue: &mut ReadyQueue,
     woken: Option<TaskId>,
 ) -> Control
     requires { FoundFits woken }
-    ensures { SwitchesKeepingPlaces tasks objects ids len
+    ensures { SwitchesKeepingPlaces tasks objects queue
         (λ s. resume_after_task_exit activate (delivered s woken)) result }
 {
     match woken {
-        None => switch_or_yield(tasks, objects, ids, len),
+        None => switch_or_yield(tasks, objects, queue),
         Some(t) => {
-            remove_lent(ids, len, t);
-            activate_task(tasks, objects, ids, len, t)
+            queue.remove(t);
+            activate_task(tasks, objects, queue, t)
         }
     }
 }
@@ -152,17 +147,15 @@ pub fn resume_after_task_exit(
 pub fn switch_or_yield(
     tasks: &mut Tasks,
     objects: &mut Objects,
-    ids: &mut [u16; TASKS],
-    len: &mut usize,
+    queue: &mut ReadyQueue,
 ) -> Control
-    ensures { SwitchesKeepingPlaces tasks objects ids len
+    ensures { SwitchesKeepingPlaces tasks objects queue
         (λ s. resume_next activate s) result }
 {
-    let n = *len;
-    if n == 0 {
+    if queue.len == 0 {
         return yield_control(objects);
     }
-    let t = front_lent(ids);
-    pop_lent(ids, len);
-    activate_task(tasks, objects, ids, len, t)
+    let t = queue.front();
+    queue.pop_front();
+    activate_task(tasks, objects, queue, t)
 }

@@ -6,7 +6,7 @@ use Rattle.rows.specs.Tables.{header_at}
 use Rattle.queue.specs.declared.ReadyQueue.{ReadyQueue}
 use Rattle.machine.specs.Store.{LogEntry, spawned, store_of}
 use Rattle.machine.specs.Scheduler.{spawn, spawn_as}
-use Rattle.contract.specs.Contract.{Slice, Count, queue_before, queue_after}
+use Rattle.contract.specs.Contract.{Slice, LentQueue}
 
 -- from ts, os and q to ts', os' and q', where the header of os is h: the machine's spawn_as
 pub record SpawnsAs (ts os : List ℕ) (q : ReadyQueue) (h : Header) (c g : ℕ) (ts' os' : List ℕ) (q' : ReadyQueue) : Type 0 where
@@ -21,10 +21,10 @@ pub data Spawns (ts os : List ℕ) (q : ReadyQueue) (c g : ℕ) : List ℕ → L
   not_done : ((ps : List ℕ) (l : List LogEntry) → spawn (store_of ts os ps q l) c g ≡ none) → Spawns ts os q c g ts os q false
 
 -- both, of a call
-abbrev pub SpawnsTaskAs : Slice → Slice → Slice → Count → Header → ℕ → ℕ → Type 0
-SpawnsTaskAs tasks objects ids len h c g =
-    SpawnsAs tasks.entry.now objects.entry.now (queue_before ids len) h c g tasks.exit.now objects.exit.now (queue_after ids len)
+abbrev pub SpawnsTaskAs : Slice → Slice → LentQueue → Header → ℕ → ℕ → Type 0
+SpawnsTaskAs tasks objects queue h c g =
+    SpawnsAs tasks.entry.now objects.entry.now queue.entry.now h c g tasks.exit.now objects.exit.now queue.exit.now
 
-abbrev pub SpawnsTask : Slice → Slice → Slice → Count → ℕ → ℕ → Bool → Type 0
-SpawnsTask tasks objects ids len c g b =
-    Spawns tasks.entry.now objects.entry.now (queue_before ids len) c g tasks.exit.now objects.exit.now (queue_after ids len) b
+abbrev pub SpawnsTask : Slice → Slice → LentQueue → ℕ → ℕ → Bool → Type 0
+SpawnsTask tasks objects queue c g b =
+    Spawns tasks.entry.now objects.entry.now queue.entry.now c g tasks.exit.now objects.exit.now queue.exit.now b

@@ -27,8 +27,8 @@ pub fn no_call_pending(objects: &Objects) -> bool
 }
 
 // May a call be answered at once? Nothing is ready and no call is pending; after the session's end none is.
-pub fn can_await_eagerly(objects: &Objects, queue: ReadyQueue) -> bool
-    ensures { ReadsObjectsAndQueue objects.now queue can_await_eagerly result }
+pub fn can_await_eagerly(objects: &Objects, queue: &ReadyQueue) -> bool
+    ensures { ReadsObjectsAndQueue objects.now queue.now can_await_eagerly result }
 {
     if queue.len == 0 {
         let header = rows::tables::load_header(objects);
@@ -44,7 +44,7 @@ pub fn can_await_eagerly(objects: &Objects, queue: ReadyQueue) -> bool
 
 // Row `t` cleared, if it is a live task's.
 fn clear_one(tasks: &mut Tasks, t: TaskId)
-    requires { (t.0 < task_limit) }
+    requires { t.0 < task_limit }
     ensures { tasks.new ≡ clear_one tasks.old t.0 }
 {
     let state = rows::parts::state_at(tasks, t);
@@ -60,7 +60,7 @@ fn clear_one(tasks: &mut Tasks, t: TaskId)
 
 // The rows of the live tasks below `next` cleared.
 fn clear_tasks(tasks: &mut Tasks, next: u16)
-    requires { (next ≤ task_limit) }
+    requires { next ≤ task_limit }
     ensures { tasks.new ≡ clear_from tasks.old 0 next }
 {
     let mut t: u16 = 0;
@@ -71,20 +71,17 @@ fn clear_tasks(tasks: &mut Tasks, next: u16)
 }
 
 // The session ends: no task is left, and none is ready.
-pub fn cleanup(tasks: &mut Tasks, objects: &mut Objects) -> ReadyQueue
-    ensures { Cleans tasks objects result }
+pub fn cleanup(tasks: &mut Tasks, objects: &mut Objects, queue: &mut ReadyQueue)
+    ensures { Cleans tasks objects queue.new }
 {
     let header = rows::tables::load_header(objects);
     clear_tasks(tasks, header.next);
     rows::tables::store_header(
         objects,
         Header {
-            made: header.made,
-            used: header.used,
-            calls: header.calls,
-            next: header.next,
             moment: Moment::Ended,
+            ..header
         },
     );
-    ReadyQueue::new()
+    *queue = ReadyQueue::new();
 }

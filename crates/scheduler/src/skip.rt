@@ -9,7 +9,7 @@ use asyncio::{HeapId, Objects};
 
 // Is object `o` a pending external?
 pub(crate) fn is_pending(objects: &Objects, o: HeapId) -> bool
-    requires { (o.0 < object_limit) }
+    requires { o.0 < object_limit }
     ensures { result ≡ is_pending objects.now o.0 }
 {
     let kind = rows::parts::kind_at(objects, o);
@@ -18,7 +18,7 @@ pub(crate) fn is_pending(objects: &Objects, o: HeapId) -> bool
 
 // Is one of the four objects from `o` on a pending external?
 fn any_pending(objects: &Objects, o: u16) -> bool
-    requires { (o + 4 ≤ object_limit) }
+    requires { o + 4 ≤ object_limit }
     ensures { result ≡ any_of (is_pending objects.now) o 4 }
 {
     if is_pending(objects, HeapId::new(o)) {
@@ -35,7 +35,7 @@ fn any_pending(objects: &Objects, o: u16) -> bool
 
 // Is one of the eight objects from `o` on a pending external of that call?
 fn any_called(objects: &Objects, call: u32, o: u16) -> bool
-    requires { (o + 8 ≤ object_limit) }
+    requires { o + 8 ≤ object_limit }
     ensures { result ≡ any_of (is_call objects.now call) o 8 }
 {
     if is_call(objects, call, HeapId::new(o)) {
@@ -64,7 +64,7 @@ fn any_called(objects: &Objects, call: u32, o: u16) -> bool
 
 // Where a search for a pending external below `made` may begin: fours are passed over as long as none of the four is one.
 pub(crate) fn skip_not_pending(objects: &Objects, made: u16) -> u16
-    requires { (made ≤ object_limit) }
+    requires { made ≤ object_limit }
     ensures { BeginsAt (is_pending objects.now) made result }
 {
     let mut o: u16 = 0;
@@ -79,7 +79,7 @@ pub(crate) fn skip_not_pending(objects: &Objects, made: u16) -> u16
 
 // Where the search for that call's pending external below `made` may begin: eights are passed over as long as none of the eight is it.
 pub(crate) fn skip_other_calls(objects: &Objects, call: u32, made: u16) -> u16
-    requires { (made ≤ object_limit) }
+    requires { made ≤ object_limit }
     ensures { BeginsAt (is_call objects.now call) made result }
 {
     let mut o: u16 = 0;

@@ -5,7 +5,7 @@ ghost use Rattle.scheduler.specs.Spawn.{SpawnsTaskAs, SpawnsTask};
 
 use crate::tasks::{task_of};
 use asyncio::{Awaiter, Header, HeapId, Objects, TASKS, Task, TaskId, TaskState, Tasks};
-use queue::push_lent;
+use queue::ReadyQueue;
 
 const LIMIT: u16 = TASKS as u16;
 
@@ -13,14 +13,13 @@ const LIMIT: u16 = TASKS as u16;
 fn spawn_as(
     tasks: &mut Tasks,
     objects: &mut Objects,
-    ids: &mut [u16; TASKS],
-    len: &mut usize,
+    queue: &mut ReadyQueue,
     header: Header,
     c: HeapId,
     g: HeapId,
 )
     requires { header.next < task_limit }
-    ensures { SpawnsTaskAs tasks objects ids len header c.0 g.0 }
+    ensures { SpawnsTaskAs tasks objects queue header c.0 g.0 }
 {
     let t = TaskId::new(header.next);
     let moment = header.moment;
@@ -43,19 +42,18 @@ fn spawn_as(
             moment,
         },
     );
-    push_lent(ids, len, t);
+    queue.push_back(t);
 }
 
 // Whether a task was spawned: none where the coroutine already has a live task, or no number is left. The queue is lent.
 pub fn spawn(
     tasks: &mut Tasks,
     objects: &mut Objects,
-    ids: &mut [u16; TASKS],
-    len: &mut usize,
+    queue: &mut ReadyQueue,
     c: HeapId,
     g: HeapId,
 ) -> bool
-    ensures { SpawnsTask tasks objects ids len c.0 g.0 result }
+    ensures { SpawnsTask tasks objects queue c.0 g.0 result }
 {
     let header = rows::tables::load_header(objects);
     let next = header.next;
@@ -64,7 +62,7 @@ pub fn spawn(
         Some(_) => false,
         None => {
             if next < LIMIT {
-                spawn_as(tasks, objects, ids, len, header, c, g);
+                spawn_as(tasks, objects, queue, header, c, g);
                 return true;
             }
             false

@@ -9,7 +9,7 @@ use asyncio::{HeapId, Objects, TaskId, Tasks};
 
 // Does task `t` live and drive object `c`?
 fn is_task_of(tasks: &Tasks, t: TaskId, c: HeapId) -> bool
-    requires { (t.0 < task_limit) }
+    requires { t.0 < task_limit }
     ensures { result ≡ is_task_of c.0 (task_at tasks.now t.0) }
 {
     let state = rows::parts::state_at(tasks, t);
@@ -22,7 +22,7 @@ fn is_task_of(tasks: &Tasks, t: TaskId, c: HeapId) -> bool
 
 // The live spawned task below `next` that drives object `c`.
 pub(crate) fn task_of(tasks: &Tasks, next: u16, c: HeapId) -> Option<TaskId>
-    requires { (next ≤ task_limit) }
+    requires { next ≤ task_limit }
     ensures { result ≡ found_task (task_of_in tasks.now next c.0) }
 {
     let mut t: u16 = 1;
@@ -38,7 +38,7 @@ pub(crate) fn task_of(tasks: &Tasks, next: u16, c: HeapId) -> Option<TaskId>
 
 // Is object `o` a pending external of that call?
 pub(crate) fn is_call(objects: &Objects, call: u32, o: HeapId) -> bool
-    requires { (o.0 < object_limit) }
+    requires { o.0 < object_limit }
     ensures { result ≡ is_call objects.now call o.0 }
 {
     let kind = rows::parts::kind_at(objects, o);

@@ -31,7 +31,7 @@ fn put_task_of(tasks: &Tasks, table: &mut [u64], t: TaskId)
 
 // The tasks of all coroutines, in one pass over the tasks: downward, so that the lowest number stays.
 fn find_tasks(tasks: &Tasks, next: u16) -> [u64; OBJECTS]
-    requires { (next ≤ task_limit) }
+    requires { next ≤ task_limit }
     ensures { (c : ℕ) → tasks_of_in result c ≡ task_of_in tasks.now next c }
 {
     let mut table = [0u64; OBJECTS];

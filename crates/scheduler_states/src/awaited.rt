@@ -18,34 +18,23 @@ pub struct AwaitedGather {
 
 // Object `g` as an awaited gather, if it is one.
 pub fn as_awaited(objects: &Objects, g: HeapId) -> Option<AwaitedGather>
-    requires { (g.0 < object_limit) }
+    requires { g.0 < object_limit }
     ensures { option_awaited result ≡ as_awaited (object_at objects.now g.0) }
 {
-    let o = rows::tables::load_object(objects, g);
-    match o {
-        Object::Unmade => None,
-        Object::Coroutine {
-            function: _,
-            state: _,
-        } => None,
-        Object::ExternalFuture { call: _, state: _ } => None,
+    match rows::tables::load_object(objects, g) {
         Object::GatherFuture {
             first,
             count,
-            state,
-        } => match state {
-            GatherState::Pending => None,
-            GatherState::Completed => None,
-            GatherState::Failed(_) => None,
-            GatherState::Awaited {
+            state: GatherState::Awaited {
                 awaiter,
                 open_places,
-            } => Some(AwaitedGather {
-                first,
-                count,
-                awaiter,
-                open_places,
-            }),
-        },
+            },
+        } => Some(AwaitedGather {
+            first,
+            count,
+            awaiter,
+            open_places,
+        }),
+        _ => None,
     }
 }

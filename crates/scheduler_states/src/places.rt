@@ -28,13 +28,10 @@ pub fn is_open(places: &Places, first: u16, count: u16, open_places: u32, o: Hea
     ensures { (a : Awaiter) → result ≡ open_from (place_in places) (awaited_gather first count a open_places) o.0 0 count }
 {
     let from = first as usize;
-    let n = count as usize;
-    let mut i: usize = 0;
-    while i < n {
+    for i in 0..count as usize {
         if is_open_here(places, open_places, from + i, i, o) {
             return true;
         }
-        i += 1;
     }
     false
 }

@@ -6,34 +6,24 @@ ghost use Rattle.rows.specs.Tables.{task_at};
 ghost use Rattle.queue.specs.Queue.{stood_at};
 ghost use Rattle.machine.specs.Scheduler.{make_ready, remove_task};
 ghost use Rattle.asyncio.specs.declared.TaskState.{TaskState};
-ghost use Rattle.contract.specs.Contract.{ChangesTasks, queue_before, queue_after};
+ghost use Rattle.contract.specs.Contract.{ChangesTasks};
 ghost use Rattle.scheduler_states.specs.States.{Restates, MakesReady};
 
-use asyncio::{Awaiter, HeapId, TASKS, Task, TaskId, TaskState, Tasks};
-use queue::{ReadyQueue, Removed, remove_lent};
+use asyncio::{Awaiter, HeapId, Task, TaskId, TaskState, Tasks};
+use queue::ReadyQueue;
 
 // Task `t` in another state.
 pub fn set_state(tasks: &mut Tasks, t: TaskId, state: TaskState)
-    requires { (t.0 < task_limit) }
+    requires { t.0 < task_limit }
     ensures { Restates tasks t.0 state }
 {
     let old = rows::tables::load_task(tasks, t);
-    let awaiter = old.awaiter;
-    let coroutine = old.coroutine;
-    rows::tables::store_task(
-        tasks,
-        t,
-        Task {
-            state,
-            awaiter,
-            coroutine,
-        },
-    );
+    rows::tables::store_task(tasks, t, Task { state, ..old });
 }
 
 // Is task `t` blocked on an awaitable?
 pub fn is_blocked(tasks: &Tasks, t: TaskId) -> bool
-    requires { (t.0 < task_limit) }
+    requires { t.0 < task_limit }
     ensures { result ≡ is_blocked (task_at tasks.now t.0).state }
 {
     let state = rows::parts::state_at(tasks, t);
@@ -42,7 +32,7 @@ pub fn is_blocked(tasks: &Tasks, t: TaskId) -> bool
 
 // Task `t` is given a value or an error. The caller puts it at the queue's back.
 pub fn make_ready(tasks: &mut Tasks, t: TaskId, state: TaskState)
-    requires { (t.0 < task_limit) }
+    requires { t.0 < task_limit }
     ensures { MakesReady tasks t.0 state }
 {
     set_state(tasks, t, state);
@@ -50,22 +40,17 @@ pub fn make_ready(tasks: &mut Tasks, t: TaskId, state: TaskState)
 
 // Task `t` waits for object `o`.
 pub fn block_current_on(tasks: &mut Tasks, t: TaskId, o: HeapId)
-    requires { (t.0 < task_limit) }
+    requires { t.0 < task_limit }
     ensures { Restates tasks t.0 (TaskState.Blocked o) }
 {
     set_state(tasks, t, TaskState::Blocked(o));
 }
 
-// Task `t` is live no more, and not ready. Where it stood in the ready queue, which is lent.
-pub fn remove_task_lent(
-    tasks: &mut Tasks,
-    ids: &mut [u16; TASKS],
-    len: &mut usize,
-    t: TaskId,
-) -> Option<usize>
-    requires { (t.0 < task_limit) }
-    ensures { ChangesTasks tasks (queue_before ids len) (queue_after ids len) (λ s. remove_task s t.0)
-        × (result ≡ stood_at (queue_before ids len) t.0) }
+// Task `t` is live no more, and not ready. Where it stood in the ready queue.
+pub fn remove_task(tasks: &mut Tasks, queue: &mut ReadyQueue, t: TaskId) -> Option<usize>
+    requires { t.0 < task_limit }
+    ensures { ChangesTasks tasks queue.old queue.new (λ s. remove_task s t.0)
+        × (result ≡ stood_at queue.old t.0) }
 {
     let absent = Task {
         state: TaskState::Absent,
@@ -73,16 +58,5 @@ pub fn remove_task_lent(
         coroutine: HeapId::new(0),
     };
     rows::tables::store_task(tasks, t, absent);
-    remove_lent(ids, len, t)
-}
-
-// The same of a queue that is handed over and back.
-pub fn remove_task(tasks: &mut Tasks, mut queue: ReadyQueue, t: TaskId) -> Removed
-    requires { (t.0 < task_limit) }
-    ensures { ChangesTasks tasks queue result.queue (λ s. remove_task s t.0) × (result.at ≡ stood_at queue t.0) }
-{
-    let mut n = queue.len;
-    let at = remove_task_lent(tasks, &mut queue.ids, &mut n, t);
-    queue.len = n;
-    Removed { queue, at }
+    queue.remove(t)
 }

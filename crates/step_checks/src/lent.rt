@@ -69,7 +69,7 @@ fn is_wait(answer: Answer) -> bool
 // A wait writes the pending calls at the list's front, and it is told how many there are. After any other answer the list keeps its contents, and
 // there are 0.
 pub fn write_calls(objects: &Objects, calls: &mut [u64], answer: Answer) -> usize
-    requires { (object_limit ≤ length calls.old) }
+    requires { object_limit ≤ length calls.old }
     ensures { WritesWait objects.now calls answer result }
 {
     if is_wait(answer) {

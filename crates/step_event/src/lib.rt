@@ -9,7 +9,7 @@ ghost use Rattle.step_event.specs.EventOf.{event_of};
 ghost use Rattle.step_event.specs.LentStep.{LentStep};
 
 use asyncio::{Objects, Places, Tasks, Value};
-use exec_switch::answer::{Answer, Stepped};
+use exec_switch::answer::Answer;
 use queue::ReadyQueue;
 
 // The events of kinds 1 to 11. The items of a gather and the results of a batch stand in slices of their own.
@@ -31,7 +31,7 @@ pub enum Event {
 // What a caller gets: the queue to pass back at the next call, the answer, and of a wait how many calls stand at the front of the list (0: it is no wait).
 #[derive(Drop)]
 pub struct Answered {
-    pub queue: ReadyQueue,
+    pub queue: &mut ReadyQueue,
     pub answer: Answer,
     pub calls: usize,
 }
@@ -41,34 +41,19 @@ fn checked(
     tasks: &mut Tasks,
     objects: &mut Objects,
     places: &mut Places,
-    queue: ReadyQueue,
+    queue: &mut ReadyQueue,
     event: Event,
     items: &[u16],
     results: &[u8],
-) -> Stepped
+) -> Answer
     ensures { Answers tasks objects places queue (λ s. checked s (event_of items.now results.now event)) result }
 {
     match event {
-        Event::Coroutine(f) => {
-            let answer = step_make::coroutine(objects, f);
-            Stepped { queue, answer }
-        }
-        Event::Call => {
-            let answer = step_make::call(objects);
-            Stepped { queue, answer }
-        }
-        Event::Pending { call, stored } => {
-            let answer = step_make::pending(objects, call, stored);
-            Stepped { queue, answer }
-        }
-        Event::Settled(v) => {
-            let answer = step_make::settled(objects, v);
-            Stepped { queue, answer }
-        }
-        Event::Gather => {
-            let answer = step_make::gather(objects, places, items);
-            Stepped { queue, answer }
-        }
+        Event::Coroutine(f) => step_make::coroutine(objects, f),
+        Event::Call => step_make::call(objects),
+        Event::Pending { call, stored } => step_make::pending(objects, call, stored),
+        Event::Settled(v) => step_make::settled(objects, v),
+        Event::Gather => step_make::gather(objects, places, items),
         Event::Await(o) => step_run::await_object(tasks, objects, places, queue, o),
         Event::Complete(v) => step_run::complete(tasks, objects, places, queue, v),
         Event::Fail(n) => step_run::fail(tasks, objects, queue, n),
@@ -93,9 +78,7 @@ pub fn step(
     requires { SoundMemory tasks.old objects.old places.old calls.old queue }
     ensures { LentStep tasks objects places calls queue (event_of items.now results.now event) result }
 {
-    let stepped = checked(tasks, objects, places, queue, event, items, results);
-    let after = stepped.queue;
-    let answer = stepped.answer;
+    let answer = checked(tasks, objects, places, queue, event, items, results);
     let count = step_checks::lent::write_calls(objects, calls, answer);
     Answered {
         queue: after,

@@ -13,7 +13,7 @@ ghost use Rattle.step_checks.specs.Checked.{checked};
 use asyncio::{Moment, Objects, Places, RESULTS, RESULT_BYTES, TaskId, Tasks};
 use exec_ends::resume_with_resolved_futures;
 use exec_futures::results::apply_future_results;
-use exec_switch::answer::{Answer, Stepped};
+use exec_switch::answer::Answer;
 use queue::ReadyQueue;
 use scheduler_cancel::cancel::cancel_task;
 use step_checks::refusals::{any_bad, any_unknown, not_live};
@@ -36,57 +36,36 @@ pub fn results(
     tasks: &mut Tasks,
     objects: &mut Objects,
     places: &mut Places,
-    queue: ReadyQueue,
+    queue: &mut ReadyQueue,
     results: &[u8],
-) -> Stepped
+) -> Answer
     ensures { Answers tasks objects places queue (λ s. checked s (Event.results (results_in results.now))) result }
 {
     if is_ended(objects) {
-        return Stepped {
-            queue,
-            answer: Answer::Refused(3),
-        };
+        return Answer::Refused(3);
     }
     if any_unknown(objects, results) {
-        return Stepped {
-            queue,
-            answer: Answer::Refused(5),
-        };
+        return Answer::Refused(5);
     }
     if RESULTS < results.len() / RESULT_BYTES {
-        return Stepped {
-            queue,
-            answer: Answer::Refused(10),
-        };
+        return Answer::Refused(10);
     }
     if any_bad(results) {
-        return Stepped {
-            queue,
-            answer: Answer::Refused(10),
-        };
+        return Answer::Refused(10);
     }
-    let q = apply_future_results(tasks, objects, places, queue, results);
-    Stepped {
-        queue: q,
-        answer: Answer::Done,
-    }
+    apply_future_results(tasks, objects, places, queue, results);
+    Answer::Done
 }
 
 // The host hands control back.
-pub fn resume(tasks: &mut Tasks, objects: &mut Objects, queue: ReadyQueue) -> Stepped
+pub fn resume(tasks: &mut Tasks, objects: &mut Objects, queue: &mut ReadyQueue) -> Answer
     ensures { AnswersKeepingPlaces tasks objects queue (λ s. checked s Event.resume) result }
 {
     let header = rows::tables::load_header(objects);
     let moment = header.moment;
     match moment {
-        Moment::Ended => Stepped {
-            queue,
-            answer: Answer::Refused(3),
-        },
-        Moment::Running(_) => Stepped {
-            queue,
-            answer: Answer::Refused(4),
-        },
+        Moment::Ended => Answer::Refused(3),
+        Moment::Running(_) => Answer::Refused(4),
         Moment::Waiting => resume_with_resolved_futures(tasks, objects, queue),
     }
 }
@@ -98,43 +77,27 @@ pub fn cancel(
     tasks: &mut Tasks,
     objects: &Objects,
     places: &Places,
-    queue: ReadyQueue,
+    queue: &mut ReadyQueue,
     t: u16,
-) -> Stepped
+) -> Answer
     ensures { Answers tasks (kept objects.now) (kept places.now) queue (λ s. checked s (Event.cancel t)) result }
 {
     let header = rows::tables::load_header(objects);
     let moment = header.moment;
     match moment {
-        Moment::Ended => Stepped {
-            queue,
-            answer: Answer::Refused(3),
-        },
-        Moment::Running(_) => Stepped {
-            queue,
-            answer: Answer::Refused(4),
-        },
+        Moment::Ended => Answer::Refused(3),
+        Moment::Running(_) => Answer::Refused(4),
         Moment::Waiting => {
             let dead = not_live(tasks, objects, t);
             if dead {
-                return Stepped {
-                    queue,
-                    answer: Answer::Refused(5),
-                };
+                return Answer::Refused(5);
             }
             if t == 0 {
-                return Stepped {
-                    queue,
-                    answer: Answer::Refused(9),
-                };
+                return Answer::Refused(9);
             }
             let before = queue.len;
-            let q = cancel_task(tasks, objects, places, queue, TaskId::new(t));
-            let lost = (before - q.len) as u16;
-            Stepped {
-                queue: q,
-                answer: Answer::Cancelled(lost),
-            }
+            cancel_task(tasks, objects, places, queue, TaskId::new(t));
+            Answer::Cancelled((before - queue.len) as u16)
         }
     }
 }

@@ -102,8 +102,8 @@ pub fn show(objects: &Objects, o: u16) -> Reading
 }
 
 // May the host answer a call at once?
-pub fn eager(objects: &Objects, queue: ReadyQueue) -> Answer
-    ensures { EagerChecked objects.now queue result }
+pub fn eager(objects: &Objects, queue: &ReadyQueue) -> Answer
+    ensures { EagerChecked objects.now queue.now result }
 {
     Answer::Eager(can_await_eagerly(objects, queue))
 }

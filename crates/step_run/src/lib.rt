@@ -7,7 +7,7 @@ ghost use Rattle.step_checks.specs.Checked.{checked};
 
 use asyncio::{Error, HeapId, Objects, Places, Tasks, Value};
 use exec_await::exec_get_awaitable;
-use exec_switch::answer::{Answer, Stepped};
+use exec_switch::answer::Answer;
 use queue::ReadyQueue;
 use sound_rows::values::value_known;
 use step_checks::refusals::{Turn, running};
@@ -17,42 +17,23 @@ pub fn await_object(
     tasks: &mut Tasks,
     objects: &mut Objects,
     places: &mut Places,
-    queue: ReadyQueue,
+    queue: &mut ReadyQueue,
     o: u16,
-) -> Stepped
+) -> Answer
     ensures { Answers tasks objects places queue (λ s. checked s (Event.await o)) result }
 {
     let turn = running(objects);
     match turn {
-        Turn::Refused(n) => Stepped {
-            queue,
-            answer: Answer::Refused(n),
-        },
+        Turn::Refused(n) => Answer::Refused(n),
         Turn::Runs(t) => {
             let header = rows::tables::load_header(objects);
             if header.made <= o {
-                return Stepped {
-                    queue,
-                    answer: Answer::Refused(5),
-                };
+                return Answer::Refused(5);
             }
-            let mut q = queue;
-            let mut n = q.len;
-            let a = exec_get_awaitable(
-                tasks,
-                objects,
-                places,
-                &mut q.ids,
-                &mut n,
-                t,
-                HeapId::new(o),
-            );
-            q.len = n;
-            let control = a.control;
-            let steps = a.steps;
-            Stepped {
-                queue: q,
-                answer: Answer::Awaited { control, steps },
+            let a = exec_get_awaitable(tasks, objects, places, queue, t, HeapId::new(o));
+            Answer::Awaited {
+                control: a.control,
+                steps: a.steps,
             }
         }
     }
@@ -63,40 +44,31 @@ pub fn complete(
     tasks: &mut Tasks,
     objects: &mut Objects,
     places: &mut Places,
-    queue: ReadyQueue,
+    queue: &mut ReadyQueue,
     value: Value,
-) -> Stepped
+) -> Answer
     ensures { Answers tasks objects places queue (λ s. checked s (Event.complete value)) result }
 {
     let turn = running(objects);
     match turn {
-        Turn::Refused(n) => Stepped {
-            queue,
-            answer: Answer::Refused(n),
-        },
+        Turn::Refused(n) => Answer::Refused(n),
         Turn::Runs(t) => {
             let header = rows::tables::load_header(objects);
             if value_known(header.made, objects, value) {
                 return exec_ends::complete(tasks, objects, places, queue, t, value);
             }
-            Stepped {
-                queue,
-                answer: Answer::Refused(5),
-            }
+            Answer::Refused(5)
         }
     }
 }
 
 // The running task fails with the error script n.
-pub fn fail(tasks: &mut Tasks, objects: &mut Objects, queue: ReadyQueue, n: u32) -> Stepped
+pub fn fail(tasks: &mut Tasks, objects: &mut Objects, queue: &mut ReadyQueue, n: u32) -> Answer
     ensures { AnswersKeepingPlaces tasks objects queue (λ s. checked s (Event.fail n)) result }
 {
     let turn = running(objects);
     match turn {
-        Turn::Refused(k) => Stepped {
-            queue,
-            answer: Answer::Refused(k),
-        },
+        Turn::Refused(k) => Answer::Refused(k),
         Turn::Runs(t) => exec_ends::fail(tasks, objects, queue, t, Error::Script(n)),
     }
 }
