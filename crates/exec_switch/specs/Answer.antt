@@ -1,11 +1,13 @@
 -- The answers, as the code gives them.
-use Rattle.std.specs.Prelude.{ℕ, List}
+use Rattle.std.specs.Prelude.{ℕ, List, Result, Ok, Err}
 use Rattle.machine.specs.Store.{Store}
 use Rattle.machine.specs.Scheduler.{pending_calls_in}
 use Rattle.machine.specs.Machine as machine
 use Rattle.contract.specs.Contract.{Slice, LentQueue, Does, DoesKeepingPlaces, DoesOfObjects, DoesOfObjectsAndPlaces}
 use Rattle.exec_switch.specs.Control.{control_with}
+use Rattle.exec_switch.specs.Refusal.{refusal_number}
 use Rattle.exec_switch.specs.declared.answer.Answer.{Answer}
+use Rattle.exec_switch.specs.declared.answer.Refusal.{Refusal}
 
 -- the answer: a wait with these calls
 abbrev pub answer_with : List ℕ → Answer → machine.Answer
@@ -19,11 +21,16 @@ answer_with cs Answer.Stalled = machine.Answer.stalled
 answer_with cs (Answer.Finished v) = machine.Answer.finished v
 answer_with cs (Answer.FinishedError e) = machine.Answer.finished_error e
 answer_with cs (Answer.Eager b) = machine.Answer.is_eager b
-answer_with cs (Answer.Refused n) = machine.Answer.refused n
+answer_with cs (Answer.Refused r) = machine.Answer.refused (refusal_number r)
 
 -- a wait's calls are those pending in the store
 abbrev pub answer_of : List ℕ → Answer → machine.Answer
 answer_of os a = answer_with (pending_calls_in os) a
+
+-- what an event with refusals answers: the answer, or the refusal
+abbrev pub answer_or : Result Answer Refusal → Answer
+answer_or (Ok a) = a
+answer_or (Err r) = Answer.Refused r
 
 -- a store, and the answer
 abbrev pub stepped_of : Store → Answer → machine.Step

@@ -1,9 +1,57 @@
 // The answers of document 01. The calls of a wait are those pending in the store.
+ghost use Rattle.std.specs.Prelude.{◌≡◌};
+ghost use Rattle.exec_switch.specs.Refusal.{refusal_number};
+
 use crate::control::Control;
 use asyncio::{CallId, Error, HeapId, Value};
 use queue::ReadyQueue;
 
-#[derive(Clone, Copy)]
+// Why an event or a read is refused, in the order of document 01's table of what a caller gets; the driver's own, 11, is not of the library.
+#[derive(Clone, Copy, PartialEq, Eq, Debug)]
+pub enum Refusal {
+    // a slice of the store has the wrong length, or the list of calls has under 256 words
+    WrongLength,
+    // the store is not sound
+    NotSound,
+    // the session has ended
+    SessionEnded,
+    // an event of running while the host has control, or one of the host while a task runs
+    WrongMoment,
+    // an object not made, a task not live, a call number not handed out, a list of a gather not completed
+    Unknown,
+    // the call is pending already
+    PendingAlready,
+    // a 257th object, over 32 items, over 512 places in all
+    NoRoom,
+    // all call numbers are handed out
+    NoCallNumber,
+    // main is cancelled
+    MainCancelled,
+    // over 64 results, or a result of a wrong kind, tag or error number
+    BadResult,
+}
+
+impl Refusal {
+    // Its number in the table.
+    pub fn number(self) -> u16
+        ensures { result ≡ refusal_number self }
+    {
+        match self {
+            Refusal::WrongLength => 1,
+            Refusal::NotSound => 2,
+            Refusal::SessionEnded => 3,
+            Refusal::WrongMoment => 4,
+            Refusal::Unknown => 5,
+            Refusal::PendingAlready => 6,
+            Refusal::NoRoom => 7,
+            Refusal::NoCallNumber => 8,
+            Refusal::MainCancelled => 9,
+            Refusal::BadResult => 10,
+        }
+    }
+}
+
+#[derive(Clone, Copy, PartialEq, Eq, Debug)]
 pub enum Answer {
     Made(HeapId),
     Called(CallId),
@@ -16,7 +64,7 @@ pub enum Answer {
     Finished(Value),
     FinishedError(Error),
     Eager(bool),
-    Refused(u16),
+    Refused(Refusal),
 }
 
 // The queue after an event, and its answer.

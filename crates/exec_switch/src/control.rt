@@ -7,7 +7,7 @@ ghost use Rattle.exec_switch.specs.Control.{moment_put, how_of, SwitchesKeepingL
 use asyncio::{Error, Header, HeapId, Moment, Objects, TaskId, TaskState, Tasks, Value};
 
 // How a task goes on: it starts a coroutine with its function, receives a value, raises an error, or runs a coroutine inline.
-#[derive(Clone, Copy)]
+#[derive(Clone, Copy, PartialEq, Eq, Debug)]
 pub enum How {
     Start { coroutine: HeapId, function: u32 },
     Value(Value),
@@ -16,7 +16,7 @@ pub enum How {
 }
 
 // The calls that the host waits for are those pending in the store.
-#[derive(Clone, Copy)]
+#[derive(Clone, Copy, PartialEq, Eq, Debug)]
 pub enum Control {
     Runs { task: TaskId, how: How },
     Waits,
