@@ -1,7 +1,5 @@
 -- Bytes written one after the other into a lent buffer, from a place on.
 use Rattle.std.specs.Prelude.{◌≡◌, List, [], ◌∷◌, ℕ, ◌+◌, ◌≤◌, ltb, length, set}
-use denote.Triple.Both.{Both}
-use denote.MutBor.{MutBor}
 use Rattle.asyncio.specs.States.{pick}
 
 -- A buffer, and the place of the next byte.
@@ -26,7 +24,3 @@ emit o (b ∷ bs) = emit (emit1 o b) bs
 pub record Wrote (k : ℕ) (x y : Out) (bs : List ℕ) : Type 0 where
   pub emitted : y ≡ emit x bs
   pub short : length bs ≤ k
-
--- The call writes these bytes, at most k, into the lent buffer at a place, and returns the place behind them.
-abbrev pub Puts : ℕ → Both (MutBor (List ℕ)) (MutBor (List ℕ)) → ℕ → ℕ → List ℕ → Type 0
-Puts k out at r bs = Wrote k (out_of out.entry.now at) (out_of out.exit.now r) bs

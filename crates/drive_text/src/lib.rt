@@ -1,71 +1,77 @@
-// Bytes, texts and numbers written into a lent buffer. Each function takes the place of the next byte and gives the place behind what it
-// wrote. Where the buffer ends nothing more is written.
+// Bytes, texts and numbers written into a lent buffer, one behind the other. Where the buffer ends nothing more is written.
 #![tactic(auto)]
 
-ghost use Rattle.std.specs.Prelude.{◌+◌, ◌*◌, [], ◌∷◌, ◌++◌, length};
-ghost use Rattle.drive_text.specs.Out.{Puts};
-ghost use Rattle.drive_text.specs.Text.{decimal, field, fields};
+// A lent buffer, and the place of the next byte.
+#[derive(Drop)]
+pub struct Writer<'a> {
+    pub out: &'a mut [u8],
+    pub at: usize,
+}
 
-// One byte.
-pub fn put_byte(out: &mut [u8], at: usize, b: u8) -> usize
-    ensures { Puts 1 out at result (b ∷ []) }
-{
-    if at < out.len() {
-        out[at] = b;
-        return at + 1;
+impl<'a> Writer<'a> {
+    ghost use Rattle.std.specs.Prelude.{◌≡◌, ◌+◌, ◌*◌, [], ◌∷◌, ◌++◌, length};
+    ghost use Rattle.drive_text.specs.Writing.{Puts};
+    ghost use Rattle.drive_text.specs.Text.{decimal, field, fields};
+
+    // Writes into a buffer from a place on.
+    pub fn new(out: &'a mut [u8], at: usize) -> Writer<'a>
+        ensures same_buffer { result.out.ghost_name ≡ out.entry.ghost_name }
+        ensures place { result.at ≡ at }
+    {
+        Writer { out, at }
     }
-    at
-}
 
-// The bytes of a text.
-pub fn put_text(out: &mut [u8], at: usize, text: &[u8]) -> usize
-    ensures { Puts (length text.now) out at result text.now }
-{
-    let mut p = at;
-    let mut i: usize = 0;
-    while i < text.len() {
-        p = put_byte(out, p, text[i]);
-        i += 1;
+    // One byte.
+    pub fn put_byte(&mut self, b: u8)
+        ensures { Puts 1 self (b ∷ []) }
+    {
+        if self.at < self.out.len() {
+            self.out[self.at] = b;
+            self.at += 1;
+        }
     }
-    p
-}
 
-// A number in decimal.
-pub fn put_decimal(out: &mut [u8], at: usize, n: u64) -> usize
-    ensures { Puts 20 out at result (decimal n) }
-{
-    if n < 10 {
-        return put_byte(out, at, 48 + n as u8);
+    // The bytes of a text.
+    pub fn put_text(&mut self, text: &[u8])
+        ensures { Puts (length text.now) self text.now }
+    {
+        for &b in text {
+            self.put_byte(b);
+        }
     }
-    let p = put_decimal(out, at, n / 10);
-    put_byte(out, p, 48 + (n % 10) as u8)
-}
 
-// A number after a space.
-pub fn put_field(out: &mut [u8], at: usize, n: u64) -> usize
-    ensures { Puts 21 out at result (field n) }
-{
-    let p = put_byte(out, at, 32);
-    put_decimal(out, p, n)
-}
-
-// A text, and a number after a space.
-pub fn put_named(out: &mut [u8], at: usize, text: &[u8], n: u64) -> usize
-    ensures { Puts (length text.now + 21) out at result (text.now ++ field n) }
-{
-    let p = put_text(out, at, text);
-    put_field(out, p, n)
-}
-
-// Numbers, each after a space.
-pub fn put_numbers(out: &mut [u8], at: usize, numbers: &[u64]) -> usize
-    ensures { Puts (21 * length numbers.now) out at result (fields numbers.now) }
-{
-    let mut p = at;
-    let mut i: usize = 0;
-    while i < numbers.len() {
-        p = put_field(out, p, numbers[i]);
-        i += 1;
+    // A number in decimal.
+    pub fn put_decimal(&mut self, n: u64)
+        ensures { Puts 20 self (decimal n) }
+    {
+        if n >= 10 {
+            self.put_decimal(n / 10);
+        }
+        self.put_byte(48 + (n % 10) as u8);
     }
-    p
+
+    // A number after a space.
+    pub fn put_field(&mut self, n: u64)
+        ensures { Puts 21 self (field n) }
+    {
+        self.put_byte(b' ');
+        self.put_decimal(n);
+    }
+
+    // A text, and a number after a space.
+    pub fn put_named(&mut self, text: &[u8], n: u64)
+        ensures { Puts (length text.now + 21) self (text.now ++ field n) }
+    {
+        self.put_text(text);
+        self.put_field(n);
+    }
+
+    // Numbers, each after a space.
+    pub fn put_numbers(&mut self, numbers: &[u64])
+        ensures { Puts (21 * length numbers.now) self (fields numbers.now) }
+    {
+        for &n in numbers {
+            self.put_field(n);
+        }
+    }
 }
