@@ -1,5 +1,5 @@
 // The words of each type (docs/LAYOUT.md), and what any words are read as: each function equals its definition in specs/Layout.
-ghost use Rattle.std.specs.Prelude.{◌≡◌, min, ◌≤◌};
+ghost use Rattle.std.specs.Prelude.{◌≡◌, ◌≤◌};
 ghost use Rattle.asyncio.specs.Limits.{place_limit};
 ghost use Rattle.asyncio.specs.Numbers.{to_u32, to_first, to_count};
 ghost use Rattle.asyncio.specs.Layout.{value_words, to_value, option_words, to_option, error_words, to_error, awaiter_words, to_awaiter};
@@ -34,18 +34,11 @@ pub fn to_first(n: u64) -> u16
     (n % (PLACES as u64 + 1)) as u16
 }
 
-// The lower of two numbers.
-pub fn least(a: usize, b: usize) -> usize
-    ensures { result ≡ min a b }
-{
-    if a < b { a } else { b }
-}
-
 pub fn to_count(first: u16, n: u64) -> u16
     requires { first ≤ place_limit }
     ensures { result ≡ to_count first n }
 {
-    least(n as usize % (ITEMS + 1), PLACES - first as usize) as u16
+    (n as usize % (ITEMS + 1)).min(PLACES - first as usize) as u16
 }
 
 // ---- values, errors, awaiters
@@ -146,19 +139,7 @@ pub fn to_awaiter(tag: u64, a: u64, b: u64) -> Awaiter
 fn kind_word(k: Kind) -> u64
     ensures { result ≡ kind_word k }
 {
-    match k {
-        Kind::Unmade => 0,
-        Kind::NewCoroutine => 1,
-        Kind::RunningCoroutine => 2,
-        Kind::CompletedCoroutine => 3,
-        Kind::PendingExternal => 4,
-        Kind::ResolvedExternal => 5,
-        Kind::FailedExternal => 6,
-        Kind::PendingGather => 7,
-        Kind::AwaitedGather => 8,
-        Kind::CompletedGather => 9,
-        Kind::FailedGather => 10,
-    }
+    k as u64
 }
 
 pub fn to_kind(n: u64) -> Kind

@@ -1,5 +1,5 @@
 -- What a removal promises (document 02, No. 8): whether the task stood in the queue, at which position, and that the others keep their former order.
-use Rattle.std.specs.Prelude.{◌≡◌, refl, Bool, true, false, ℕ, suc, ◌+◌, ◌-◌, ◌≤◌, ◌<◌, eqb, ltb, length, take, drop, None, Some}
+use Rattle.std.specs.Prelude.{◌≡◌, refl, Bool, true, false, ℕ, suc, ◌+◌, ◌≤◌, ◌<◌, eqb, ltb, length, take, drop, None, Some}
 use Rattle.std.proofs.Common.{sym, subst, ◌∙◌, add-one, length-append, drop_of_length-le, take_at}
 use Rattle.std.proofs.Math.Path.{ap}
 use mathlib.Core.List.{List, [], ◌∷◌, ◌++◌, append-nil}

@@ -1,8 +1,8 @@
 -- What the laws of proofs/RemovalLaws.antt state.
-use Rattle.std.specs.Prelude.{◌≡◌, ℕ, ◌+◌, ◌-◌, take, drop, None, Some}
+use Rattle.std.specs.Prelude.{◌≡◌, ℕ, ◌+◌, take, drop, None, Some}
 use mathlib.Core.List.{List, ◌∷◌, ◌++◌}
 use Rattle.queue.specs.Queue.{Position}
-use Rattle.queue.specs.Queue.{entries, position, occurrences}
+use Rattle.queue.specs.Queue.{occurrences}
 
 -- What the entries l and r before and after the removal of t have to do with the position that is told: t stood there and nowhere before, and the others
 -- are left in their former order; or t stood nowhere, and all are left.

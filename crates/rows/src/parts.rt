@@ -3,6 +3,7 @@ ghost use Rattle.std.specs.Prelude.{◌≡◌, ◌<◌};
 ghost use Rattle.asyncio.specs.Limits.{task_limit, object_limit, place_limit};
 ghost use Rattle.asyncio.specs.Kinds.{kind};
 ghost use Rattle.asyncio.specs.Parts.{awaiter_of, call_of, first_of, count_of, open_of};
+ghost use Rattle.rows.specs.Tables.{object_start};
 ghost use Rattle.rows.specs.Slices.{task_in, object_in, place_in};
 
 use asyncio::words::{to_awaiter, to_count, to_first, to_kind, to_option, to_state, to_u32};
@@ -10,14 +11,19 @@ use asyncio::{Awaiter, CallId, HeapId, Kind, Objects, Places, TaskId, TaskState,
 
 // ---- objects
 
+// Where its row stands.
+fn object_start(o: HeapId) -> usize
+    ensures { result ≡ object_start o.0 }
+{
+    o.0 as usize * 8 + 8
+}
+
 // Its sort and state.
 pub fn kind_at(objects: &Objects, o: HeapId) -> Kind
     requires { o.0 < object_limit }
     ensures { result ≡ kind (object_in objects o.0) }
 {
-    let i = o.0 as usize;
-    let at = i * 8 + 8;
-    to_kind(objects[at])
+    to_kind(objects[object_start(o)])
 }
 
 // The awaiter of a pending external or an awaited gather, else nobody.
@@ -25,10 +31,8 @@ pub fn awaiter_at(objects: &Objects, o: HeapId) -> Awaiter
     requires { o.0 < object_limit }
     ensures { result ≡ awaiter_of (object_in objects o.0) }
 {
-    let i = o.0 as usize;
-    let at = i * 8 + 8;
-    let kind = to_kind(objects[at]);
-    if kind.has_awaiter() {
+    let at = object_start(o);
+    if to_kind(objects[at]).has_awaiter() {
         return to_awaiter(objects[at + 1], objects[at + 2], objects[at + 3]);
     }
     Awaiter::Nobody
@@ -39,10 +43,8 @@ pub fn call_at(objects: &Objects, o: HeapId) -> CallId
     requires { o.0 < object_limit }
     ensures { result ≡ call_of (object_in objects o.0) }
 {
-    let i = o.0 as usize;
-    let at = i * 8 + 8;
-    let kind = to_kind(objects[at]);
-    if kind.is_external() {
+    let at = object_start(o);
+    if to_kind(objects[at]).is_external() {
         return CallId::from_word(objects[at + 4]);
     }
     CallId::new(0)
@@ -53,10 +55,8 @@ pub fn first_at(objects: &Objects, o: HeapId) -> u16
     requires { o.0 < object_limit }
     ensures { result ≡ first_of (object_in objects o.0) }
 {
-    let i = o.0 as usize;
-    let at = i * 8 + 8;
-    let kind = to_kind(objects[at]);
-    if kind.is_gather() {
+    let at = object_start(o);
+    if to_kind(objects[at]).is_gather() {
         return to_first(objects[at + 4]);
     }
     0
@@ -67,10 +67,8 @@ pub fn count_at(objects: &Objects, o: HeapId) -> u16
     requires { o.0 < object_limit }
     ensures { result ≡ count_of (object_in objects o.0) }
 {
-    let i = o.0 as usize;
-    let at = i * 8 + 8;
-    let kind = to_kind(objects[at]);
-    if kind.is_gather() {
+    let at = object_start(o);
+    if to_kind(objects[at]).is_gather() {
         return to_count(to_first(objects[at + 4]), objects[at + 5]);
     }
     0
@@ -81,10 +79,8 @@ pub fn open_at(objects: &Objects, o: HeapId) -> u32
     requires { o.0 < object_limit }
     ensures { result ≡ open_of (object_in objects o.0) }
 {
-    let i = o.0 as usize;
-    let at = i * 8 + 8;
-    let kind = to_kind(objects[at]);
-    if kind.is_awaited() {
+    let at = object_start(o);
+    if to_kind(objects[at]).is_awaited() {
         return to_u32(objects[at + 6]);
     }
     0
@@ -96,8 +92,7 @@ pub fn state_at(tasks: &Tasks, t: TaskId) -> TaskState
     requires { t.0 < task_limit }
     ensures { result ≡ (task_in tasks t.0).state }
 {
-    let i = t.0 as usize;
-    let at = i * 8;
+    let at = t.0 as usize * 8;
     to_state(tasks[at], tasks[at + 5], tasks[at + 6])
 }
 
@@ -105,8 +100,7 @@ pub fn task_awaiter_at(tasks: &Tasks, t: TaskId) -> Awaiter
     requires { t.0 < task_limit }
     ensures { result ≡ (task_in tasks t.0).awaiter }
 {
-    let i = t.0 as usize;
-    let at = i * 8;
+    let at = t.0 as usize * 8;
     to_awaiter(tasks[at + 1], tasks[at + 2], tasks[at + 3])
 }
 
@@ -114,9 +108,7 @@ pub fn coroutine_at(tasks: &Tasks, t: TaskId) -> HeapId
     requires { t.0 < task_limit }
     ensures { result ≡ (task_in tasks t.0).coroutine }
 {
-    let i = t.0 as usize;
-    let at = i * 8;
-    HeapId::from_word(tasks[at + 4])
+    HeapId::from_word(tasks[t.0 as usize * 8 + 4])
 }
 
 // ---- places
@@ -125,8 +117,7 @@ pub fn item_at(places: &Places, p: usize) -> HeapId
     requires { p < place_limit }
     ensures { result ≡ (place_in places p).item }
 {
-    let at = p * 4;
-    HeapId::from_word(places[at])
+    HeapId::from_word(places[p * 4])
 }
 
 pub fn result_at(places: &Places, p: usize) -> Option<Value>

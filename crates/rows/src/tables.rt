@@ -11,53 +11,22 @@ use asyncio::words::{
 };
 use asyncio::{Header, HeapId, Object, Objects, Place, Places, Task, TaskId, Tasks};
 
-// ---- rows of 8 and of 4 words
+// ---- a row of any width
 
-fn load8(w: &[u64], at: usize) -> [u64; 8]
-    requires { at + 8 ≤ length w.now }
-    ensures { result ≡ row_from w.now at 0 8 }
+fn load<const N: usize>(w: &[u64], at: usize) -> [u64; N]
+    requires { at + N ≤ length w.now }
+    ensures { result ≡ row_from w.now at 0 N }
 {
-    [
-        w[at],
-        w[at + 1],
-        w[at + 2],
-        w[at + 3],
-        w[at + 4],
-        w[at + 5],
-        w[at + 6],
-        w[at + 7],
-    ]
+    let mut row = [0; N];
+    row.copy_from_slice(&w[at..at + N]);
+    row
 }
 
-fn store8(w: &mut [u64], at: usize, r: [u64; 8])
-    requires { at + 8 ≤ length w.old }
-    ensures { w.new ≡ put_from w.old at 0 r }
+fn store(w: &mut [u64], at: usize, row: &[u64])
+    requires { at + length row.now ≤ length w.old }
+    ensures { w.new ≡ put_from w.old at 0 row.now }
 {
-    w[at] = r[0];
-    w[at + 1] = r[1];
-    w[at + 2] = r[2];
-    w[at + 3] = r[3];
-    w[at + 4] = r[4];
-    w[at + 5] = r[5];
-    w[at + 6] = r[6];
-    w[at + 7] = r[7];
-}
-
-fn load4(w: &[u64], at: usize) -> [u64; 4]
-    requires { at + 4 ≤ length w.now }
-    ensures { result ≡ row_from w.now at 0 4 }
-{
-    [w[at], w[at + 1], w[at + 2], w[at + 3]]
-}
-
-fn store4(w: &mut [u64], at: usize, r: [u64; 4])
-    requires { at + 4 ≤ length w.old }
-    ensures { w.new ≡ put_from w.old at 0 r }
-{
-    w[at] = r[0];
-    w[at + 1] = r[1];
-    w[at + 2] = r[2];
-    w[at + 3] = r[3];
+    w[at..at + row.len()].copy_from_slice(row);
 }
 
 // ---- tasks
@@ -67,7 +36,7 @@ pub fn task_row(tasks: &Tasks, t: usize) -> [u64; 8]
     requires { t < task_limit }
     ensures { result ≡ row_from tasks.now (task_start t) 0 8 }
 {
-    load8(tasks, t * 8)
+    load(tasks, t * 8)
 }
 
 pub fn load_task(tasks: &Tasks, t: TaskId) -> Task
@@ -81,8 +50,7 @@ pub fn store_task(tasks: &mut Tasks, t: TaskId, r: Task)
     requires { t.0 < task_limit }
     ensures { tasks.new ≡ task_put tasks.old t.0 r }
 {
-    let i = t.0 as usize;
-    store8(tasks, i * 8, task_words(r));
+    store(tasks, t.0 as usize * 8, &task_words(r));
 }
 
 // ---- objects, behind the header's row
@@ -92,7 +60,7 @@ pub fn object_row(objects: &Objects, o: usize) -> [u64; 8]
     requires { o < object_limit }
     ensures { result ≡ row_from objects.now (object_start o) 0 8 }
 {
-    load8(objects, o * 8 + 8)
+    load(objects, o * 8 + 8)
 }
 
 pub fn load_object(objects: &Objects, o: HeapId) -> Object
@@ -106,15 +74,14 @@ pub fn store_object(objects: &mut Objects, o: HeapId, r: Object)
     requires { o.0 < object_limit }
     ensures { objects.new ≡ object_put objects.old o.0 r }
 {
-    let i = o.0 as usize;
-    store8(objects, i * 8 + 8, object_words(r));
+    store(objects, o.0 as usize * 8 + 8, &object_words(r));
 }
 
 // The words of the header's row.
 pub fn header_row(objects: &Objects) -> [u64; 8]
     ensures { result ≡ row_from objects.now 0 0 8 }
 {
-    load8(objects, 0)
+    load(objects, 0)
 }
 
 pub fn load_header(objects: &Objects) -> Header
@@ -126,7 +93,7 @@ pub fn load_header(objects: &Objects) -> Header
 pub fn store_header(objects: &mut Objects, h: Header)
     ensures { objects.new ≡ header_put objects.old h }
 {
-    store8(objects, 0, header_words(h));
+    store(objects, 0, &header_words(h));
 }
 
 // ---- places
@@ -136,7 +103,7 @@ pub fn place_row(places: &Places, p: usize) -> [u64; 4]
     requires { p < place_limit }
     ensures { result ≡ row_from places.now (place_start p) 0 4 }
 {
-    load4(places, p * 4)
+    load(places, p * 4)
 }
 
 pub fn load_place(places: &Places, p: usize) -> Place
@@ -150,5 +117,5 @@ pub fn store_place(places: &mut Places, p: usize, r: Place)
     requires { p < place_limit }
     ensures { places.new ≡ place_put places.old p r }
 {
-    store4(places, p * 4, place_words(r));
+    store(places, p * 4, &place_words(r));
 }

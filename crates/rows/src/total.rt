@@ -8,10 +8,7 @@ use asyncio::words::to_option;
 fn word_at(words: &[u64], i: usize) -> u64
     ensures { result ≡ get_or words.now i 0 }
 {
-    if i < words.len() {
-        return words[i];
-    }
-    0
+    words.get(i).copied().unwrap_or(0)
 }
 
 // The result of place `i` of a gather that starts at `first`.

@@ -2,7 +2,7 @@ use Rattle.rows.specs.PartLaws.{first_at}
 use Rattle.rows.proofs.parts.first_at.Goals as goal
 
 pub returns-then-is_gather : goal.returns-then-is_gather
-returns-then-is_gather c = rw (first_at c.args.objects.now c.args.o.0, ← c.to_kind-kind.ensures, ← c.is_gather.ensures, c.if-is_gather.true, c.to_first.ensures)
+returns-then-is_gather c = rw (first_at c.args.objects.now c.args.o.0, ← c.object_start-at.ensures, ← c.to_kind.ensures, ← c.is_gather.ensures, c.if-is_gather.true, c.to_first.ensures)
 
 pub returns : goal.returns
-returns c = rw (first_at c.args.objects.now c.args.o.0, ← c.to_kind-kind.ensures, ← c.is_gather.ensures, c.if-is_gather.false)
+returns c = rw (first_at c.args.objects.now c.args.o.0, ← c.object_start-at.ensures, ← c.to_kind.ensures, ← c.is_gather.ensures, c.if-is_gather.false)

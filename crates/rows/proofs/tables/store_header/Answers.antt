@@ -3,4 +3,4 @@ use Rattle.rows.proofs.tables.store_header.Goals as goal
 
 pub returns : goal.returns
 unfolding header_put
-returns c = rw (c.store8.ensures, c.header_words.ensures)
+returns c = rw (c.store.ensures, c.header_words.ensures)

@@ -3,4 +3,4 @@ use Rattle.rows.proofs.tables.store_object.Goals as goal
 
 pub returns : goal.returns
 unfolding object_put
-returns c = rw (c.store8.ensures, c.object_words.ensures)
+returns c = rw (c.store.ensures, c.object_words.ensures)

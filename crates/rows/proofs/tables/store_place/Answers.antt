@@ -3,4 +3,4 @@ use Rattle.rows.proofs.tables.store_place.Goals as goal
 
 pub returns : goal.returns
 unfolding place_put
-returns c = rw (c.store4.ensures, c.place_words.ensures)
+returns c = rw (c.store.ensures, c.place_words.ensures)

@@ -3,4 +3,4 @@ use Rattle.rows.proofs.tables.store_task.Goals as goal
 
 pub returns : goal.returns
 unfolding task_put
-returns c = rw (c.store8.ensures, c.task_words.ensures)
+returns c = rw (c.store.ensures, c.task_words.ensures)
