@@ -2,14 +2,15 @@
 #![tactic(auto)]
 
 ghost use Rattle.std.specs.Prelude.{◌≡◌, ◌<◌, ◌≤◌, length, set, get_or};
-ghost use Rattle.asyncio.specs.Limits.{task_limit, tasks_length};
-ghost use Rattle.records_tasks.specs.TaskRecord.{no_record, state_in, delivered_in, record_of, is_woken, fits, woken_with, state_with, task_of};
+ghost use Rattle.asyncio.specs.Limits.{task_limit};
+ghost use Rattle.records_tasks.specs.TaskRecord.{no_record, record_of, fits, task_of};
 ghost use Rattle.records_tasks.specs.TaskRows.{rows_of, saved};
 
-use asyncio::{Awaiter, Error, HeapId, TASKS_LEN, Task, TaskId, TaskState, Value};
+use asyncio::{Awaiter, Error, HeapId, TASKS_LEN, Task, TaskId, TaskState, Tasks, Value};
+use rows::tables::{load_task, store_task};
 
 // A task's state, without the value that a woken task has.
-#[derive(Clone, Copy)]
+#[derive(Clone, Copy, PartialEq, Eq, Debug)]
 pub enum RecordState {
     Absent,
     Unstarted,
@@ -21,7 +22,7 @@ pub enum RecordState {
 
 // A task, in the four fields of document 01: its state, where its result goes, its coroutine (0 for main, which has none), and the value delivered to it,
 // which a woken task has and no other.
-#[derive(Clone, Copy)]
+#[derive(Clone, Copy, PartialEq, Eq, Debug)]
 pub struct TaskRecord {
     pub state: RecordState,
     pub awaiter: Awaiter,
@@ -29,118 +30,63 @@ pub struct TaskRecord {
     pub delivered: Option<Value>,
 }
 
-// ---- a record of a task
-
-fn state_in(state: TaskState) -> RecordState
-    ensures { result ≡ state_in state }
-{
-    match state {
-        TaskState::Absent => RecordState::Absent,
-        TaskState::Unstarted => RecordState::Unstarted,
-        TaskState::Running => RecordState::Running,
-        TaskState::Woken(_) => RecordState::Woken,
-        TaskState::Raised(e) => RecordState::Raised(e),
-        TaskState::Blocked(o) => RecordState::Blocked(o),
+impl TaskRecord {
+    // Has it a value just where it is woken?
+    pub fn fits(&self) -> bool
+        ensures { result ≡ fits self.now }
+    {
+        matches!(self.state, RecordState::Woken) == self.delivered.is_some()
     }
 }
 
-fn delivered_in(state: TaskState) -> Option<Value>
-    ensures { result ≡ delivered_in state }
-{
-    match state {
-        TaskState::Absent => None,
-        TaskState::Unstarted => None,
-        TaskState::Running => None,
-        TaskState::Woken(v) => Some(v),
-        TaskState::Raised(_) => None,
-        TaskState::Blocked(_) => None,
-    }
-}
-
-pub fn record_of(task: Task) -> TaskRecord
-    ensures { result ≡ record_of task }
-{
-    let state = task.state;
-    let awaiter = task.awaiter;
-    let coroutine = task.coroutine;
-    TaskRecord {
-        state: state_in(state),
-        awaiter,
-        coroutine,
-        delivered: delivered_in(state),
-    }
-}
-
-// ---- the task of a record
-
-fn is_woken(state: RecordState) -> bool
-    ensures { result ≡ is_woken state }
-{
-    match state {
-        RecordState::Absent => false,
-        RecordState::Unstarted => false,
-        RecordState::Running => false,
-        RecordState::Woken => true,
-        RecordState::Raised(_) => false,
-        RecordState::Blocked(_) => false,
-    }
-}
-
-// Has it a value just where it is woken?
-pub fn fits(task: TaskRecord) -> bool
-    ensures { result ≡ fits task }
-{
-    let state = task.state;
-    let delivered = task.delivered;
-    let woken = is_woken(state);
-    match delivered {
-        None => !woken,
-        Some(_) => woken,
-    }
-}
-
-fn woken_with(delivered: Option<Value>) -> TaskState
-    ensures { result ≡ woken_with delivered }
-{
-    match delivered {
-        None => TaskState::Absent,
-        Some(v) => TaskState::Woken(v),
-    }
-}
-
-fn state_with(state: RecordState, delivered: Option<Value>) -> TaskState
-    ensures { result ≡ state_with state delivered }
-{
-    match state {
-        RecordState::Absent => TaskState::Absent,
-        RecordState::Unstarted => TaskState::Unstarted,
-        RecordState::Running => TaskState::Running,
-        RecordState::Woken => woken_with(delivered),
-        RecordState::Raised(e) => TaskState::Raised(e),
-        RecordState::Blocked(o) => TaskState::Blocked(o),
+// The record of a task.
+impl From<Task> for TaskRecord {
+    fn from(task: Task) -> TaskRecord
+        ensures { result ≡ record_of task }
+    {
+        let (state, delivered) = match task.state {
+            TaskState::Absent => (RecordState::Absent, None),
+            TaskState::Unstarted => (RecordState::Unstarted, None),
+            TaskState::Running => (RecordState::Running, None),
+            TaskState::Woken(v) => (RecordState::Woken, Some(v)),
+            TaskState::Raised(e) => (RecordState::Raised(e), None),
+            TaskState::Blocked(o) => (RecordState::Blocked(o), None),
+        };
+        TaskRecord {
+            state,
+            awaiter: task.awaiter,
+            coroutine: task.coroutine,
+            delivered,
+        }
     }
 }
 
 // The task that a record stands for. A record that does not fit stands for a task whose coroutine's number is out of range, so that its words are refused
 // with 2 (specs/TaskRecord).
-pub fn task_of(task: TaskRecord) -> Task
-    ensures { result ≡ task_of task }
-{
-    if fits(task) {
-        let state = task.state;
-        let awaiter = task.awaiter;
-        let coroutine = task.coroutine;
-        let delivered = task.delivered;
-        return Task {
-            state: state_with(state, delivered),
-            awaiter,
-            coroutine,
+impl From<TaskRecord> for Task {
+    fn from(from: TaskRecord) -> Task
+        ensures { result ≡ task_of from }
+    {
+        let state = match (from.state, from.delivered) {
+            (RecordState::Absent, None) => TaskState::Absent,
+            (RecordState::Unstarted, None) => TaskState::Unstarted,
+            (RecordState::Running, None) => TaskState::Running,
+            (RecordState::Woken, Some(v)) => TaskState::Woken(v),
+            (RecordState::Raised(e), None) => TaskState::Raised(e),
+            (RecordState::Blocked(o), None) => TaskState::Blocked(o),
+            _ => {
+                return Task {
+                    state: TaskState::Absent,
+                    awaiter: Awaiter::Nobody,
+                    coroutine: HeapId::new(256),
+                };
+            }
         };
-    }
-    Task {
-        state: TaskState::Absent,
-        awaiter: Awaiter::Nobody,
-        coroutine: HeapId::new(256),
+        Task {
+            state,
+            awaiter: from.awaiter,
+            coroutine: from.coroutine,
+        }
     }
 }
 
@@ -163,29 +109,25 @@ pub fn put_task(tasks: &mut [TaskRecord], t: usize, task: TaskRecord)
 }
 
 // The words of the first `n` records; the other rows are 0.
-pub fn load(tasks: &[TaskRecord], n: u16) -> [u64; TASKS_LEN]
+pub fn load(tasks: &[TaskRecord], n: u16) -> Tasks
     requires { (n ≤ length tasks.now) × (n ≤ task_limit) }
-    ensures { (result ≡ rows_of tasks.now n) × (length result ≡ tasks_length) }
+    ensures { result ≡ rows_of tasks.now n }
 {
     let mut words = [0u64; TASKS_LEN];
-    let mut t: u16 = 0;
-    while t < n {
-        let task = task_of(task_at(tasks, t as usize));
-        rows::tables::store_task(&mut words, TaskId::new(t), task);
-        t += 1;
+    for t in 0..n {
+        let task = Task::from(task_at(tasks, t as usize));
+        store_task(&mut words, TaskId::new(t), task);
     }
     words
 }
 
 // The first `n` records are made of the words.
-pub fn save(tasks: &mut [TaskRecord], words: &[u64], n: u16)
-    requires { (n ≤ length tasks.old) × (length words.now ≡ tasks_length) × (n ≤ task_limit) }
+pub fn save(tasks: &mut [TaskRecord], words: &Tasks, n: u16)
+    requires { (n ≤ length tasks.old) × (n ≤ task_limit) }
     ensures { tasks.new ≡ saved words.now n tasks.old }
 {
-    let mut t: u16 = 0;
-    while t < n {
-        let task = rows::tables::load_task(words, TaskId::new(t));
-        put_task(tasks, t as usize, record_of(task));
-        t += 1;
+    for t in 0..n {
+        let task = load_task(words, TaskId::new(t));
+        put_task(tasks, t as usize, TaskRecord::from(task));
     }
 }
