@@ -21,20 +21,25 @@ pub fn as_awaited(objects: &Objects, g: HeapId) -> Option<AwaitedGather>
     requires { g.0 < object_limit }
     ensures { option_awaited result ≡ as_awaited (object_at objects.now g.0) }
 {
-    match rows::tables::load_object(objects, g) {
-        Object::GatherFuture {
-            first,
-            count,
-            state: GatherState::Awaited {
-                awaiter,
-                open_places,
-            },
-        } => Some(AwaitedGather {
-            first,
-            count,
-            awaiter,
-            open_places,
-        }),
-        _ => None,
-    }
+    let Object::GatherFuture {
+        first,
+        count,
+        state,
+    } = rows::tables::load_object(objects, g)
+    else {
+        return None;
+    };
+    let GatherState::Awaited {
+        awaiter,
+        open_places,
+    } = state
+    else {
+        return None;
+    };
+    Some(AwaitedGather {
+        first,
+        count,
+        awaiter,
+        open_places,
+    })
 }

@@ -18,8 +18,7 @@ fn is_open_here(places: &Places, open_places: u32, p: usize, i: usize, o: HeapId
     if (open_places >> i) % 2 == 0 {
         return false;
     }
-    let item = rows::parts::item_at(places, p);
-    item.0 == o.0
+    rows::parts::item_at(places, p) == o
 }
 
 // Does an open place name object `o`? The gather has `count` places from `first` on; it does not matter who awaits it.
@@ -27,9 +26,8 @@ pub fn is_open(places: &Places, first: u16, count: u16, open_places: u32, o: Hea
     requires { PlacesFit first count }
     ensures { (a : Awaiter) → result ≡ open_from (place_in places) (awaited_gather first count a open_places) o.0 0 count }
 {
-    let from = first as usize;
     for i in 0..count as usize {
-        if is_open_here(places, open_places, from + i, i, o) {
+        if is_open_here(places, open_places, first as usize + i, i, o) {
             return true;
         }
     }

@@ -26,8 +26,7 @@ pub fn is_blocked(tasks: &Tasks, t: TaskId) -> bool
     requires { t.0 < task_limit }
     ensures { result ≡ is_blocked (task_at tasks.now t.0).state }
 {
-    let state = rows::parts::state_at(tasks, t);
-    state.is_blocked()
+    rows::parts::state_at(tasks, t).is_blocked()
 }
 
 // Task `t` is given a value or an error. The caller puts it at the queue's back.
