@@ -1,43 +1,34 @@
--- What a writer's caller says of it: nothing was written, one text after the other, and the parts of a line.
-use Rattle.std.specs.Prelude.{◌≡◌, List, [], ◌∷◌, ◌++◌, ℕ, ◌+◌, ◌*◌, ◌/◌, ◌%◌, ◌^◌, ◌≤◌, ◌<◌, length, get_or, take}
-use Rattle.std.proofs.Common.{refl, ◌∙◌, arith}
+-- What a law of written bytes says of a writer: the same, and that the writer still writes into the same buffer.
+use Rattle.std.specs.Prelude.{List, ◌++◌, ℕ, ◌+◌, ◌≤◌}
+use Rattle.std.proofs.Common.{refl, ◌∙◌}
 use Rattle.drive_text.specs.declared.Writer.{Writer}
-use Rattle.drive_text.specs.Writing.{PutsBetween}
-use Rattle.drive_text.specs.Text.{decimal, field, fields}
-use Rattle.drive_text.specs.OutLaws.{wrote_none, then, at_most}
-use Rattle.drive_text.specs.WriteLaws.{text_turn, one_digit, more_digits, spaced, numbers_none, numbers_turn}
+use Rattle.drive_text.specs.Out.{Wrote}
+use Rattle.drive_text.specs.Writing.{written, PutsBetween}
+use Rattle.drive_text.specs.OutLaws.{then, at_most}
 
-pub none_put : (w : Writer) → PutsBetween 0 w w []
-none_put w = record { same_buffer = refl; wrote = wrote_none _ }
+module _ {m : ℕ} {d : List ℕ} where
+  -- nothing was done
+  pub puts : {x : Writer} → Wrote m (written x) (written x) d → PutsBetween m x x d
+  puts w = record { same_buffer = refl; wrote = w }
 
-pub then_put : {j k : ℕ} {x y z : Writer} {a b : List ℕ} → PutsBetween j x y a → PutsBetween k y z b → PutsBetween (j + k) x z (a ++ b)
-then_put v w = record { same_buffer = w.same_buffer ∙ v.same_buffer; wrote = then v.wrote w.wrote }
+  -- by one call
+  pub puts_by : {k : ℕ} {a : List ℕ} {x y : Writer} → (Wrote k (written x) (written y) a → Wrote m (written x) (written y) d) → PutsBetween k x y a → PutsBetween m x y d
+  puts_by f v = record { same_buffer = v.same_buffer; wrote = f v.wrote }
 
-pub put_at_most : {j k : ℕ} {x y : Writer} {a : List ℕ} → j ≤ k → PutsBetween j x y a → PutsBetween k x y a
-put_at_most h w = record { same_buffer = w.same_buffer; wrote = at_most h w.wrote }
+  -- by two calls
+  pub puts_by_two : {j k : ℕ} {a b : List ℕ} {x y z : Writer} → (Wrote j (written x) (written y) a → Wrote k (written y) (written z) b → Wrote m (written x) (written z) d)
+      → PutsBetween j x y a → PutsBetween k y z b → PutsBetween m x z d
+  puts_by_two f v w = record { same_buffer = w.same_buffer ∙ v.same_buffer; wrote = f v.wrote w.wrote }
 
--- one more byte of a text
-pub put_text_turn : (bs : List ℕ) (i : ℕ) {x y z : Writer} → i < length bs → PutsBetween i x y (take i bs) → PutsBetween 1 y z (get_or bs i 0 ∷ []) → PutsBetween (i + 1) x z (take (i + 1) bs)
-put_text_turn bs i h v w = record { same_buffer = w.same_buffer ∙ v.same_buffer; wrote = text_turn bs i h v.wrote w.wrote }
+  -- by three calls
+  pub puts_by_three : {i j k : ℕ} {a b c : List ℕ} {x y z u : Writer}
+      → (Wrote i (written x) (written y) a → Wrote j (written y) (written z) b → Wrote k (written z) (written u) c → Wrote m (written x) (written u) d)
+      → PutsBetween i x y a → PutsBetween j y z b → PutsBetween k z u c → PutsBetween m x u d
+  puts_by_three f v w t = record { same_buffer = t.same_buffer ∙ w.same_buffer ∙ v.same_buffer; wrote = f v.wrote w.wrote t.wrote }
 
--- a number: its one digit, or the digits of its tenth and its last digit
-pub put_one_digit : (n : ℕ) {x y : Writer} → n < 10 → PutsBetween 1 x y ((48 + n % 10) ∷ []) → PutsBetween 20 x y (decimal n)
-put_one_digit n {x} {y} h w =
-    let e : n % 10 ≡ n = omega arith in
-    let v : PutsBetween 1 x y ((48 + n) ∷ []) = rw e at w in
-    record { same_buffer = w.same_buffer; wrote = one_digit n h v.wrote }
+-- one text after the other
+pub then_puts : {j k : ℕ} {x y z : Writer} {a b : List ℕ} → PutsBetween j x y a → PutsBetween k y z b → PutsBetween (j + k) x z (a ++ b)
+then_puts v w = puts_by_two then v w
 
-pub put_more_digits : (n : ℕ) {x y z : Writer} → 10 ≤ n → n < 2 ^ 64 → PutsBetween 20 x y (decimal (n / 10)) → PutsBetween 1 y z ((48 + n % 10) ∷ []) → PutsBetween 20 x z (decimal n)
-put_more_digits n h g v w = record { same_buffer = w.same_buffer ∙ v.same_buffer; wrote = more_digits n h g v.wrote w.wrote }
-
--- a number after a space
-pub put_spaced : (n : ℕ) {x y z : Writer} → PutsBetween 1 x y (32 ∷ []) → PutsBetween 20 y z (decimal n) → PutsBetween 21 x z (field n)
-put_spaced n v w = record { same_buffer = w.same_buffer ∙ v.same_buffer; wrote = spaced n v.wrote w.wrote }
-
--- numbers: none, and one more
-pub put_no_numbers : (x : Writer) → PutsBetween 0 x x (fields [])
-put_no_numbers x = record { same_buffer = refl; wrote = numbers_none _ }
-
-pub put_numbers_turn : (ns : List ℕ) (i : ℕ) {x y z : Writer} → i < length ns → PutsBetween (21 * i) x y (fields (take i ns)) → PutsBetween 21 y z (field (get_or ns i 0))
-    → PutsBetween (21 * (i + 1)) x z (fields (take (i + 1) ns))
-put_numbers_turn ns i h v w = record { same_buffer = w.same_buffer ∙ v.same_buffer; wrote = numbers_turn ns i h v.wrote w.wrote }
+pub puts_at_most : {j k : ℕ} {x y : Writer} {a : List ℕ} → j ≤ k → PutsBetween j x y a → PutsBetween k x y a
+puts_at_most h w = puts_by (at_most h) w

@@ -8,7 +8,8 @@ use Rattle.asyncio.specs.Limits.{task_limit, object_limit}
 use Rattle.asyncio.specs.States.{pick}
 use Rattle.rows.specs.Tables.{object_at, task_at, header_at}
 use Rattle.queue.specs.declared.ReadyQueue.{ReadyQueue}
-use Rattle.drive_text.specs.Out.{Puts}
+use Rattle.drive_text.specs.declared.Writer.{Writer}
+use Rattle.drive_text.specs.Writing.{Puts}
 use Rattle.drive_text.specs.Text.{bytes_of, newline, field, fields}
 
 -- a line: a name, and numbers each after a space
@@ -43,11 +44,7 @@ store_text ts os q = rows_text (task_text ts) (header_at os).next ++ (rows_text 
 abbrev pub store_limit : ℕ
 store_limit = 173 * task_limit + (175 * object_limit + 10779)
 
--- lent words or bytes
-abbrev Slice : Type 0
-Slice = Both (MutBor (List ℕ)) (MutBor (List ℕ))
-
 -- The call writes a line: a name, and numbers each after a space.
-abbrev pub PutsRow : Slice → ℕ → ℕ → List ℕ → List ℕ → Type 0
-PutsRow out at r name words =
-    Puts (length name + (21 * length words + 1)) out at r (name ++ (fields words ++ newline))
+abbrev pub PutsRow : Both (MutBor Writer) (MutBor Writer) → List ℕ → List ℕ → Type 0
+PutsRow out name words =
+    Puts (length name + (21 * length words + 1)) out (name ++ (fields words ++ newline))

@@ -1,13 +1,12 @@
-use mathlib.Core.Path.{refl}
-use native.Mathlib.Omega.{arith}
-use Rattle.test_print.specs.PrintingLaws.{rows_none, rows_turn, rows_end}
+use Rattle.std.proofs.Common.{arith}
+use Rattle.std.proofs.lemmas.List.{get_or-take}
+use Rattle.drive_text.specs.WritingLaws.{puts, puts_by_two}
+use Rattle.test_print.specs.PrintingLaws.{rows_none, rows_turn}
 use Rattle.test_print.proofs.put_entries.Goals as goal
 
-pub loop-i-init : goal.loop-i-init
-loop-i-init c = (rows_none _ 21 _, refl, omega arith, omega arith)
+pub loop-t-init : goal.loop-t-init
+loop-t-init c = puts (rows_none _ 21 _)
 
-pub loop-i-preserved : goal.loop-i-preserved
-loop-i-preserved c = (rows_turn _ 21 c.loop-i.i c.loop-i.invariant.0 c.put_field-p.ensures, omega arith, omega arith, omega arith)
-
-pub returns : goal.returns
-returns c = rows_end _ 21 c.loop-i.invariant.2 c.loop-i-test.false c.loop-i.invariant.0
+pub loop-t-preserved : goal.loop-t-preserved
+loop-t-preserved c =
+    puts_by_two (rows_turn _ 21 c.loop-t.t-index) c.loop-t.invariant (rw (get_or-take c.args.queue.now.len c.args.queue.now.ids c.loop-t.t-index 0 (omega arith)) at c.put_field.ensures)

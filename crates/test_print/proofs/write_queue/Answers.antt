@@ -1,8 +1,9 @@
+use Rattle.drive_text.specs.WritingLaws.{puts, puts_by_three}
 use Rattle.test_print.specs.PrintingLaws.{queue_none, queue_wrote}
 use Rattle.test_print.proofs.write_queue.Goals as goal
 
-pub returns-then-queue-gt513 : goal.returns-then-queue-gt513
-returns-then-queue-gt513 c = queue_none _ _ c.if-queue-gt513.true
+pub returns-then-queue-gt-TASKS : goal.returns-then-queue-gt-TASKS
+returns-then-queue-gt-TASKS c = puts (queue_none _ _ c.if-queue-gt-TASKS.true)
 
 pub returns : goal.returns
-returns c = queue_wrote _ c.if-queue-gt513.false c.put_text-p.ensures c.put_entries-q.ensures c.put_byte.ensures
+returns c = puts_by_three (queue_wrote _ c.if-queue-gt-TASKS.false) c.put_text.ensures c.put_entries.ensures c.put_byte.ensures
