@@ -1,7 +1,8 @@
 // A gather as it stands while it is committed: AwaitedGather.
 ghost use Rattle.std.specs.Prelude.{◌≡◌, ◌<◌};
 ghost use Rattle.asyncio.specs.Limits.{object_limit};
-ghost use Rattle.rows.specs.Tables.{object_at};
+ghost use Rattle.asyncio.specs.declared.Object.{Object};
+ghost use Rattle.rows.specs.Tables.{object_at, object_put};
 ghost use Rattle.machine.specs.Scheduler.{as_awaited};
 ghost use Rattle.scheduler_states.specs.Awaited.{option_awaited};
 
@@ -42,4 +43,17 @@ pub fn as_awaited(objects: &Objects, g: HeapId) -> Option<AwaitedGather>
         awaiter,
         open_places,
     })
+}
+
+// Gather `g`, which is `w`, in that state.
+pub fn put_gather(objects: &mut Objects, g: HeapId, w: AwaitedGather, state: GatherState)
+    requires { g.0 < object_limit }
+    ensures { objects.new ≡ object_put objects.old g.0 (Object.GatherFuture w.first w.count state) }
+{
+    let gather = Object::GatherFuture {
+        first: w.first,
+        count: w.count,
+        state,
+    };
+    rows::tables::store_object(objects, g, gather);
 }

@@ -4,21 +4,27 @@ ghost use Rattle.asyncio.specs.Limits.{item_limit, place_limit};
 ghost use Rattle.asyncio.specs.Ranges.{PlacesFit};
 ghost use Rattle.asyncio.specs.declared.Awaiter.{Awaiter};
 ghost use Rattle.rows.specs.Slices.{place_in};
+ghost use Rattle.machine.specs.Scheduler.{bit};
 ghost use Rattle.machine.specs.Commit.{open_from};
 ghost use Rattle.scheduler_states.specs.Awaited.{awaited_gather};
 ghost use Rattle.scheduler_states.specs.OpenPlaces.{open_here};
 
 use asyncio::{HeapId, Places};
 
+// Is place `i` of its gather open?
+pub fn is_bit_open(open_places: u32, i: usize) -> bool
+    requires { i < item_limit }
+    ensures { result ≡ bit open_places i }
+{
+    (open_places >> i) % 2 != 0
+}
+
 // Is place `p`, which is place `i` of its gather, open, and does it name object `o`?
-fn is_open_here(places: &Places, open_places: u32, p: usize, i: usize, o: HeapId) -> bool
+pub fn is_open_here(places: &Places, open_places: u32, p: usize, i: usize, o: HeapId) -> bool
     requires { (p < place_limit) × (i < item_limit) }
     ensures { result ≡ open_here (place_in places) open_places p i o.0 }
 {
-    if (open_places >> i) % 2 == 0 {
-        return false;
-    }
-    rows::parts::item_at(places, p) == o
+    is_bit_open(open_places, i) && rows::parts::item_at(places, p) == o
 }
 
 // Does an open place name object `o`? The gather has `count` places from `first` on; it does not matter who awaits it.
