@@ -4,6 +4,7 @@ use Rattle.std.specs.Prelude.{◌≡◌, refl, Bool, true, false, ℕ, zero, suc
 use Rattle.std.proofs.Math.Path.{sym}
 use Rattle.std.proofs.Common.{ap, ◌∙◌, mod-eq_of_lt, mod-lt, arith}
 use mathlib.Core.List.{List, [], ◌∷◌}
+use Rattle.std.proofs.Math.Logic.{◌⊎◌, ⊎_elim}
 use borrow.Author.Tests.{eq-eqb, ne_eqb, eqb-true, eqb-false, ltb-true, ltb-false, leb-true, leb-false}
 use Rattle.asyncio.specs.States.{pick}
 use Rattle.asyncio.specs.Limits.{task_limit, object_limit, place_limit, item_limit, u32_limit}
@@ -98,13 +99,6 @@ below n k p =
 pub turned : (m n : ℕ) → eqb m n ≡ eqb n m
 turned m n = same_test (eqb m n) (eqb n m) (λ e. eq-eqb n m (sym (eqb-true m n e))) (λ e. ne_eqb n m (λ q. eqb-false m n e (sym q)))
 
--- a word that is 0, and one that is not
-pub zero_eq : {n : ℕ} → n ≡ 0 → true ≡ eqb 0 n
-zero_eq e = rw e
-
-pub zero_ne : {n : ℕ} → (n ≡ 0 → ⊥) → false ≡ eqb 0 n
-zero_ne {n} h = sym (ne_eqb 0 n (λ e. h (sym e)))
-
 call_below : (n : ℕ) → ltb n u32_limit ≡ eqb (n % u32_limit) n
 call_below n = below n u32_limit (omega arith)
 
@@ -198,8 +192,8 @@ error_bare (suc (suc (suc (suc (suc (suc (suc k))))))) n p q = absurd (omega ari
 
 -- ---- awaiters
 
-pub awaiter_nobody : {tag : ℕ} (a b : ℕ) → tag ≡ 0 → zeros tag a b ≡ awaiter_same tag a b
-unfolding awaiter_same zeros ◌and◌
+pub awaiter_nobody : {tag : ℕ} (a b : ℕ) → tag ≡ 0 → eqb 0 a and eqb 0 b ≡ awaiter_same tag a b
+unfolding awaiter_same ◌and◌
 awaiter_nobody a b e = rw e
 
 pub awaiter_task : {tag : ℕ} (a b : ℕ) → tag ≡ 1 → ltb a task_limit and eqb 0 b ≡ awaiter_same tag a b
@@ -386,17 +380,18 @@ row-place w l =
 abbrev pub object_row_same : List ℕ → Bool
 object_row_same w = same_words (object_words (to_object w)) w
 
--- a number that is none of those below k, and not k
-pub past : {n : ℕ} (k : ℕ) → k ≤ n → (n ≡ k → ⊥) → suc k ≤ n
-past k l h = omega (arith, h)
-
-pub past_zero : {n : ℕ} → (n ≡ 0 → ⊥) → 1 ≤ n
-past_zero h = omega (arith, h)
-
 -- a kind's word above all
 unknown : (n : ℕ) → 11 ≤ n → to_kind n ≡ Kind.FailedGather
 unknown n h =
     rw (ne_eqb n 0 (λ e. omega arith), ne_eqb n 1 (λ e. omega arith), ne_eqb n 2 (λ e. omega arith), ne_eqb n 3 (λ e. omega arith), ne_eqb n 4 (λ e. omega arith), ne_eqb n 5 (λ e. omega arith), ne_eqb n 6 (λ e. omega arith), ne_eqb n 7 (λ e. omega arith), ne_eqb n 8 (λ e. omega arith), ne_eqb n 9 (λ e. omega arith))
+
+-- a number from 1 to 3, case by case
+one_to_three : {A : Type 0} (n : ℕ) → (n ≡ 1 → A) → (n ≡ 2 → A) → (n ≡ 3 → A) → 1 ≤ n → n ≤ 3 → A
+one_to_three zero f g h p q = absurd (omega arith)
+one_to_three (suc zero) f g h p q = f refl
+one_to_three (suc (suc zero)) f g h p q = g refl
+one_to_three (suc (suc (suc zero))) f g h p q = h refl
+one_to_three (suc (suc (suc (suc k)))) f g h p q = absurd (omega arith)
 
 module _ (w : List ℕ) (l : length w ≡ 8) where
   -- with its kind's word
@@ -407,17 +402,13 @@ module _ (w : List ℕ) (l : length w ≡ 8) where
   unfolding unmade_same same_words zeros awaiter_same option_same value_same error_same stretch_same
   row-unmade e = threes _ _ _ _ _ _ _ ∙ sym (by_kind 0 e)
 
-  pub row-new-coroutine : get_or w 0 0 ≡ 1 → coroutine_same w ≡ object_row_same w
+  pub row-coroutine : 1 ≤ get_or w 0 0 → get_or w 0 0 ≤ 3 → coroutine_same w ≡ object_row_same w
   unfolding coroutine_same same_words zeros awaiter_same option_same value_same error_same stretch_same
-  row-new-coroutine e = threes _ _ _ _ _ _ _ ∙ sym (by_kind 1 e)
-
-  pub row-running_coroutine : get_or w 0 0 ≡ 2 → coroutine_same w ≡ object_row_same w
-  unfolding coroutine_same same_words zeros awaiter_same option_same value_same error_same stretch_same
-  row-running_coroutine e = threes _ _ _ _ _ _ _ ∙ sym (by_kind 2 e)
-
-  pub row-completed-coroutine : get_or w 0 0 ≡ 3 → coroutine_same w ≡ object_row_same w
-  unfolding coroutine_same same_words zeros awaiter_same option_same value_same error_same stretch_same
-  row-completed-coroutine e = threes _ _ _ _ _ _ _ ∙ sym (by_kind 3 e)
+  row-coroutine p q =
+      let one : get_or w 0 0 ≡ 1 → coroutine_same w ≡ object_row_same w = λ e. threes _ _ _ _ _ _ _ ∙ sym (by_kind 1 e) in
+      let two : get_or w 0 0 ≡ 2 → coroutine_same w ≡ object_row_same w = λ e. threes _ _ _ _ _ _ _ ∙ sym (by_kind 2 e) in
+      let three : get_or w 0 0 ≡ 3 → coroutine_same w ≡ object_row_same w = λ e. threes _ _ _ _ _ _ _ ∙ sym (by_kind 3 e) in
+      one_to_three (get_or w 0 0) one two three p q
 
   pub row-pending : get_or w 0 0 ≡ 4 → pending_same w ≡ object_row_same w
   unfolding pending_same same_words zeros awaiter_same option_same value_same error_same stretch_same
@@ -431,7 +422,7 @@ module _ (w : List ℕ) (l : length w ≡ 8) where
   unfolding failed_same same_words zeros awaiter_same option_same value_same error_same stretch_same
   row-failed e = rw (call_below (get_or w 4 0)) (twos _ _ _ _ _ _ _ ∙ sym (by_kind 6 e))
 
-  pub row_waiting_resting : get_or w 0 0 ≡ 7 → resting_same w ≡ object_row_same w
+  row_waiting_resting : get_or w 0 0 ≡ 7 → resting_same w ≡ object_row_same w
   unfolding resting_same same_words zeros awaiter_same option_same value_same error_same stretch_same
   row_waiting_resting e = ones _ _ _ _ _ _ _ ∙ sym (by_kind 7 e)
 
@@ -439,9 +430,12 @@ module _ (w : List ℕ) (l : length w ≡ 8) where
   unfolding awaited_same same_words zeros awaiter_same option_same value_same error_same stretch_same
   row-awaited e = ones _ _ _ _ _ _ _ ∙ sym (by_kind 8 e)
 
-  pub row_done_resting : get_or w 0 0 ≡ 9 → resting_same w ≡ object_row_same w
+  row_done_resting : get_or w 0 0 ≡ 9 → resting_same w ≡ object_row_same w
   unfolding resting_same same_words zeros awaiter_same option_same value_same error_same stretch_same
   row_done_resting e = ones _ _ _ _ _ _ _ ∙ sym (by_kind 9 e)
+
+  pub row-resting : (get_or w 0 0 ≡ 7) ⊎ (get_or w 0 0 ≡ 9) → resting_same w ≡ object_row_same w
+  row-resting = ⊎_elim row_waiting_resting row_done_resting
 
   pub row-broken : get_or w 0 0 ≡ 10 → broken_same w ≡ object_row_same w
   unfolding broken_same same_words zeros awaiter_same option_same value_same error_same stretch_same

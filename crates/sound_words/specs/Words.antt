@@ -1,6 +1,7 @@
 -- Canonical rows, as the code compares them: two rows of the same width are the same when each word is.
-use Rattle.std.specs.Prelude.{◌≡◌, refl, Bool, true, false, List, [], ◌∷◌, ℕ, zero, suc, ◌+◌, ◌*◌, eqb, length, get_or}
-use Rattle.std.proofs.Common.{◌∙◌, arith}
+use Rattle.std.specs.Prelude.{◌≡◌, refl, Bool, true, false, List, [], ◌∷◌, ℕ, ◌+◌, ◌*◌, eqb, ◌&&◌}
+use Rattle.std.proofs.Common.{◌∙◌}
+use lib.Pointwise.{pointwise}
 use Rattle.asyncio.specs.States.{pick}
 use Rattle.asyncio.specs.Layout.{object_words, to_object, task_words, to_task, place_words, to_place, header_words, to_header}
 use Rattle.asyncio.specs.declared.Object.{Object}
@@ -9,25 +10,16 @@ use Rattle.asyncio.specs.declared.Place.{Place}
 use Rattle.asyncio.specs.declared.Header.{Header}
 use Rattle.rows.specs.Rows.{row_from}
 use Rattle.rows.specs.Canonical.{same_words, task_canonical, object_canonical, place_canonical, header_canonical}
-use Rattle.machine.specs.Tests.{◌and◌, all_below}
-use Rattle.sound_words.specs.Loops.{all_first}
 
--- word i of both rows
-abbrev pub same_word : List ℕ → List ℕ → ℕ → Bool
-same_word a b i = eqb (get_or a i 0) (get_or b i 0)
-
--- by the words' numbers, as a loop compares them
-pub same-below : (n : ℕ) (a b : List ℕ) → length a ≡ n → length b ≡ n → all_below n (same_word a b) ≡ same_words a b
-unfolding all_below same_words ◌and◌
-same-below zero [] [] l m = refl
-same-below zero [] (y ∷ ys) l m = absurd (omega arith)
-same-below zero (x ∷ xs) b l m = absurd (omega arith)
-same-below (suc n) [] b l m = absurd (omega arith)
-same-below (suc n) (x ∷ xs) [] l m = absurd (omega arith)
-same-below (suc n) (x ∷ xs) (y ∷ ys) l m =
-    all_first (same_word (x ∷ xs) (y ∷ ys)) n ∙ rw (same-below n xs ys (omega arith) (omega arith)) (by (eqb x y) (same_words xs ys))
+-- word by word, as `==` compares two arrays
+pub same_pointwise : (a b : List ℕ) → pointwise eqb a b ≡ same_words a b
+unfolding same_words
+same_pointwise [] [] = refl
+same_pointwise [] (y ∷ ys) = refl
+same_pointwise (x ∷ xs) [] = refl
+same_pointwise (x ∷ xs) (y ∷ ys) = rw (same_pointwise xs ys) (by (eqb x y) (same_words xs ys))
   where
-    by : (t u : Bool) → t and u ≡ pick t u false
+    by : (t u : Bool) → t && u ≡ pick t u false
     by true u = refl
     by false u = refl
 

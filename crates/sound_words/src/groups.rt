@@ -10,16 +10,11 @@ use asyncio::{ITEMS, OBJECTS, PLACES, TASKS, U32_LIMIT};
 // ---- groups
 
 // Three words that mean nothing.
+#[tactic(auto, using(crate::specs::Loops::both), unfolding(crate::specs::PartLaws::zeros))]
 fn are_zero(a: u64, b: u64, c: u64) -> bool
     ensures { result ≡ zeros a b c }
 {
-    if a == 0 {
-        if b == 0 {
-            return c == 0;
-        }
-        return false;
-    }
-    false
+    a == 0 && b == 0 && c == 0
 }
 
 // A number of 32 bits.
@@ -33,99 +28,66 @@ fn is_u32(n: u64) -> bool
 fn is_value(tag: u64, n: u64) -> bool
     ensures { result ≡ value_same tag n }
 {
-    if tag == 0 {
-        return true;
+    match tag {
+        0 => true,
+        1 => n < OBJECTS as u64,
+        _ => false,
     }
-    if tag == 1 {
-        return n < OBJECTS as u64;
-    }
-    false
 }
 
 // The same, or none.
 fn is_option(tag: u64, n: u64) -> bool
     ensures { result ≡ option_same tag n }
 {
-    if tag == 0 {
-        return n == 0;
+    match tag {
+        0 => n == 0,
+        1 => true,
+        2 => n < OBJECTS as u64,
+        _ => false,
     }
-    if tag == 1 {
-        return true;
-    }
-    if tag == 2 {
-        return n < OBJECTS as u64;
-    }
-    false
 }
 
 // The tag and the number of an error.
 fn is_error(tag: u64, n: u64) -> bool
     ensures { result ≡ error_same tag n }
 {
-    if tag < 2 {
-        return is_u32(n);
+    match tag {
+        0 | 1 => is_u32(n),
+        2..=6 => n == 0,
+        _ => false,
     }
-    if tag < 7 {
-        return n == 0;
-    }
-    false
 }
 
 // The three words of an awaiter.
 fn is_awaiter(tag: u64, a: u64, b: u64) -> bool
     ensures { result ≡ awaiter_same tag a b }
 {
-    if tag == 0 {
-        return are_zero(tag, a, b);
+    match tag {
+        0 => a == 0 && b == 0,
+        1 => a < TASKS as u64 && b == 0,
+        2 => a < OBJECTS as u64 && b < OBJECTS as u64,
+        _ => false,
     }
-    if tag == 1 {
-        if a < TASKS as u64 {
-            return b == 0;
-        }
-        return false;
-    }
-    if tag == 2 {
-        if a < OBJECTS as u64 {
-            return b < OBJECTS as u64;
-        }
-        return false;
-    }
-    false
 }
 
 // The first place of a gather, and how many it has.
 fn is_stretch(first: u64, n: u64) -> bool
     ensures { result ≡ stretch_same first n }
 {
-    if first <= PLACES as u64 {
-        if n <= ITEMS as u64 {
-            return first + n <= PLACES as u64;
-        }
-        return false;
-    }
-    false
+    first <= PLACES as u64 && n <= ITEMS as u64 && first + n <= PLACES as u64
 }
 
 // The three words of a task's state.
 fn is_state(tag: u64, a: u64, b: u64) -> bool
     ensures { result ≡ state_same tag a b }
 {
-    if tag < 3 {
-        return are_zero(0, a, b);
+    match tag {
+        0..=2 => a == 0 && b == 0,
+        3 => is_value(a, b),
+        4 => is_error(a, b),
+        5 => a < OBJECTS as u64 && b == 0,
+        _ => false,
     }
-    if tag == 3 {
-        return is_value(a, b);
-    }
-    if tag == 4 {
-        return is_error(a, b);
-    }
-    if tag == 5 {
-        if a < OBJECTS as u64 {
-            return b == 0;
-        }
-        return false;
-    }
-    false
 }
 
 // ---- tasks and places
@@ -134,150 +96,80 @@ fn is_state(tag: u64, a: u64, b: u64) -> bool
 pub fn is_task(w: [u64; 8]) -> bool
     ensures { result ≡ task_row_same w }
 {
-    if is_awaiter(w[1], w[2], w[3]) {
-        if w[4] < OBJECTS as u64 {
-            if is_state(w[0], w[5], w[6]) {
-                return w[7] == 0;
-            }
-            return false;
-        }
-        return false;
-    }
-    false
+    is_awaiter(w[1], w[2], w[3]) && w[4] < OBJECTS as u64 && is_state(w[0], w[5], w[6]) && w[7] == 0
 }
 
 // A place's row.
 pub fn is_place(w: [u64; 4]) -> bool
     ensures { result ≡ place_row_same w }
 {
-    if w[0] < OBJECTS as u64 {
-        if is_option(w[1], w[2]) {
-            return w[3] == 0;
-        }
-        return false;
-    }
-    false
+    w[0] < OBJECTS as u64 && is_option(w[1], w[2]) && w[3] == 0
 }
 
 // ---- the words of an object behind its kind
 
 // An object that is not made.
+#[tactic(auto, using(crate::specs::Loops::both), unfolding(crate::specs::PartLaws::unmade_same))]
 fn is_unmade(w: [u64; 8]) -> bool
     ensures { result ≡ unmade_same w }
 {
-    if are_zero(w[1], w[2], w[3]) {
-        if w[4] == 0 {
-            return are_zero(w[5], w[6], w[7]);
-        }
-        return false;
-    }
-    false
+    are_zero(w[1], w[2], w[3]) && w[4] == 0 && are_zero(w[5], w[6], w[7])
 }
 
 // A coroutine, in any state.
+#[tactic(auto, using(crate::specs::Loops::both), unfolding(crate::specs::PartLaws::coroutine_same))]
 fn is_coroutine(w: [u64; 8]) -> bool
     ensures { result ≡ coroutine_same w }
 {
-    if are_zero(w[1], w[2], w[3]) {
-        if is_u32(w[4]) {
-            return are_zero(w[5], w[6], w[7]);
-        }
-        return false;
-    }
-    false
+    are_zero(w[1], w[2], w[3]) && is_u32(w[4]) && are_zero(w[5], w[6], w[7])
 }
 
 // A pending external.
+#[tactic(auto, using(crate::specs::Loops::both), unfolding(crate::specs::PartLaws::pending_same))]
 fn is_pending(w: [u64; 8]) -> bool
     ensures { result ≡ pending_same w }
 {
-    if is_awaiter(w[1], w[2], w[3]) {
-        if w[4] < U32_LIMIT {
-            if is_option(w[5], w[6]) {
-                return w[7] == 0;
-            }
-            return false;
-        }
-        return false;
-    }
-    false
+    is_awaiter(w[1], w[2], w[3]) && w[4] < U32_LIMIT && is_option(w[5], w[6]) && w[7] == 0
 }
 
 // A resolved external.
+#[tactic(auto, using(crate::specs::Loops::both), unfolding(crate::specs::PartLaws::resolved_same))]
 fn is_resolved(w: [u64; 8]) -> bool
     ensures { result ≡ resolved_same w }
 {
-    if are_zero(w[1], w[2], w[3]) {
-        if w[4] < U32_LIMIT {
-            if is_value(w[5], w[6]) {
-                return w[7] == 0;
-            }
-            return false;
-        }
-        return false;
-    }
-    false
+    are_zero(w[1], w[2], w[3]) && w[4] < U32_LIMIT && is_value(w[5], w[6]) && w[7] == 0
 }
 
 // A failed external.
+#[tactic(auto, using(crate::specs::Loops::both), unfolding(crate::specs::PartLaws::failed_same))]
 fn is_failed(w: [u64; 8]) -> bool
     ensures { result ≡ failed_same w }
 {
-    if are_zero(w[1], w[2], w[3]) {
-        if w[4] < U32_LIMIT {
-            if is_error(w[5], w[6]) {
-                return w[7] == 0;
-            }
-            return false;
-        }
-        return false;
-    }
-    false
+    are_zero(w[1], w[2], w[3]) && w[4] < U32_LIMIT && is_error(w[5], w[6]) && w[7] == 0
 }
 
 // A gather that is pending or completed.
+#[tactic(auto, using(crate::specs::Loops::both), unfolding(crate::specs::PartLaws::resting_same))]
 fn is_resting(w: [u64; 8]) -> bool
     ensures { result ≡ resting_same w }
 {
-    if are_zero(w[1], w[2], w[3]) {
-        if is_stretch(w[4], w[5]) {
-            if w[6] == 0 {
-                return w[7] == 0;
-            }
-            return false;
-        }
-        return false;
-    }
-    false
+    are_zero(w[1], w[2], w[3]) && is_stretch(w[4], w[5]) && w[6] == 0 && w[7] == 0
 }
 
 // An awaited gather.
+#[tactic(auto, using(crate::specs::Loops::both), unfolding(crate::specs::PartLaws::awaited_same))]
 fn is_awaited(w: [u64; 8]) -> bool
     ensures { result ≡ awaited_same w }
 {
-    if is_awaiter(w[1], w[2], w[3]) {
-        if is_stretch(w[4], w[5]) {
-            if is_u32(w[6]) {
-                return w[7] == 0;
-            }
-            return false;
-        }
-        return false;
-    }
-    false
+    is_awaiter(w[1], w[2], w[3]) && is_stretch(w[4], w[5]) && is_u32(w[6]) && w[7] == 0
 }
 
 // A failed gather.
+#[tactic(auto, using(crate::specs::Loops::both), unfolding(crate::specs::PartLaws::broken_same))]
 fn is_broken(w: [u64; 8]) -> bool
     ensures { result ≡ broken_same w }
 {
-    if are_zero(w[1], w[2], w[3]) {
-        if is_stretch(w[4], w[5]) {
-            return is_error(w[6], w[7]);
-        }
-        return false;
-    }
-    false
+    are_zero(w[1], w[2], w[3]) && is_stretch(w[4], w[5]) && is_error(w[6], w[7])
 }
 
 // An object's row.
@@ -286,15 +178,12 @@ pub fn is_object(w: [u64; 8]) -> bool
 {
     match w[0] {
         0 => is_unmade(w),
-        1 => is_coroutine(w),
-        2 => is_coroutine(w),
-        3 => is_coroutine(w),
+        1..=3 => is_coroutine(w),
         4 => is_pending(w),
         5 => is_resolved(w),
         6 => is_failed(w),
-        7 => is_resting(w),
+        7 | 9 => is_resting(w),
         8 => is_awaited(w),
-        9 => is_resting(w),
         10 => is_broken(w),
         _ => false,
     }

@@ -1,23 +1,32 @@
-use mathlib.Core.Path.{refl, sym, ◌∙◌}
-use borrow.Author.Tests.{lt-ltb, le-ltb}
-use Rattle.sound_words.specs.Loops.{pass, stop}
-use Rattle.sound_words.specs.PartLaws.{turned, awaiter_nobody, awaiter_task, awaiter_slot, awaiter_else}
+use Rattle.std.proofs.Common.{arith}
+use Rattle.std.proofs.lemmas.Grind.{common_steps}
+use Rattle.machine.specs.Tests.{◌and◌}
+use Rattle.sound_words.specs.PartLaws.{awaiter_nobody, awaiter_task, awaiter_slot, awaiter_else}
 use Rattle.sound_words.proofs.groups.is_awaiter.Goals as goal
 
-pub returns-then-tag-eq0 : goal.returns-then-tag-eq0
-returns-then-tag-eq0 c = c.are_zero.ensures ∙ awaiter_nobody _ _ c.if-tag-eq0.true
+pub returns-then-a-eq0 : goal.returns-then-a-eq0
+unfolding ◌and◌
+returns-then-a-eq0 c = grind (arith, common_steps, awaiter_nobody c.args.a c.args.b c.in-0.is)
+
+pub returns-else-a-eq0 : goal.returns-else-a-eq0
+unfolding ◌and◌
+returns-else-a-eq0 c = grind (arith, common_steps, awaiter_nobody c.args.a c.args.b c.in-0.is)
 
 pub returns-then-a : goal.returns-then-a
-returns-then-a c = pass (sym (lt-ltb _ _ c.if-a.true)) (turned c.args.b 0) ∙ awaiter_task _ _ c.if-tag-eq1.true
+unfolding ◌and◌
+returns-then-a c = grind (arith, common_steps, awaiter_task c.args.a c.args.b c.in-1.is)
 
-pub returns-then-tag-eq1 : goal.returns-then-tag-eq1
-returns-then-tag-eq1 c = stop _ (sym (le-ltb _ _ c.if-a.false)) ∙ awaiter_task _ _ c.if-tag-eq1.true
+pub returns-else-a : goal.returns-else-a
+unfolding ◌and◌
+returns-else-a c = grind (arith, common_steps, awaiter_task c.args.a c.args.b c.in-1.is)
 
 pub returns-then-a-2 : goal.returns-then-a-2
-returns-then-a-2 c = pass (sym (lt-ltb _ _ c.if-a-2.true)) refl ∙ awaiter_slot _ _ c.if-tag-eq2.true
+unfolding ◌and◌
+returns-then-a-2 c = grind (arith, common_steps, awaiter_slot c.args.a c.args.b c.in-2.is)
 
-pub returns-then-tag-eq2 : goal.returns-then-tag-eq2
-returns-then-tag-eq2 c = stop _ (sym (le-ltb _ _ c.if-a-2.false)) ∙ awaiter_slot _ _ c.if-tag-eq2.true
+pub returns-else-a-2 : goal.returns-else-a-2
+unfolding ◌and◌
+returns-else-a-2 c = grind (arith, common_steps, awaiter_slot c.args.a c.args.b c.in-2.is)
 
-pub returns : goal.returns
-returns c = awaiter_else _ _ c.if-tag-eq0.false c.if-tag-eq1.false c.if-tag-eq2.false
+pub returns-in_default : goal.returns-in_default
+returns-in_default c = awaiter_else _ _ (λ e. omega arith) (λ e. omega arith) (λ e. omega arith)

@@ -1,23 +1,31 @@
-use mathlib.Core.Path.{sym, ◌∙◌}
-use borrow.Author.Tests.{lt-ltb, le-ltb}
-use Rattle.sound_words.specs.Loops.{pass, stop}
-use Rattle.sound_words.specs.PartLaws.{turned, past, state_bare, state_woken, state_raised, state_blocked, state_else}
+use Rattle.std.proofs.Common.{arith}
+use Rattle.std.proofs.lemmas.Grind.{common_steps}
+use Rattle.machine.specs.Tests.{◌and◌}
+use Rattle.std.proofs.Common.{◌∙◌}
+use Rattle.sound_words.specs.PartLaws.{zeros, state_bare, state_woken, state_raised, state_blocked, state_else}
 use Rattle.sound_words.proofs.groups.is_state.Goals as goal
 
-pub returns-then-tag-lt3 : goal.returns-then-tag-lt3
-returns-then-tag-lt3 c = c.are_zero.ensures ∙ state_bare _ _ _ c.if-tag-lt3.true
+pub returns-in-3 : goal.returns-in-3
+returns-in-3 c = c.is_value.ensures ∙ state_woken _ _ c.in-3.is
 
-pub returns-then-tag-eq3 : goal.returns-then-tag-eq3
-returns-then-tag-eq3 c = c.is_value.ensures ∙ state_woken _ _ c.if-tag-eq3.true
-
-pub returns-then-tag-eq4 : goal.returns-then-tag-eq4
-returns-then-tag-eq4 c = c.is_error.ensures ∙ state_raised _ _ c.if-tag-eq4.true
+pub returns-in-4 : goal.returns-in-4
+returns-in-4 c = c.is_error.ensures ∙ state_raised _ _ c.in-4.is
 
 pub returns-then-a : goal.returns-then-a
-returns-then-a c = pass (sym (lt-ltb _ _ c.if-a.true)) (turned c.args.b 0) ∙ state_blocked _ _ c.if-tag-eq5.true
+unfolding ◌and◌
+returns-then-a c = grind (arith, common_steps, state_blocked c.args.a c.args.b c.in-5.is)
 
-pub returns-then-tag-eq5 : goal.returns-then-tag-eq5
-returns-then-tag-eq5 c = stop _ (sym (le-ltb _ _ c.if-a.false)) ∙ state_blocked _ _ c.if-tag-eq5.true
+pub returns-else-a : goal.returns-else-a
+unfolding ◌and◌
+returns-else-a c = grind (arith, common_steps, state_blocked c.args.a c.args.b c.in-5.is)
 
-pub returns : goal.returns
-returns c = state_else _ _ (past 5 (past 4 (past 3 c.if-tag-lt3.false c.if-tag-eq3.false) c.if-tag-eq4.false) c.if-tag-eq5.false)
+pub returns-then-a-eq0 : goal.returns-then-a-eq0
+unfolding zeros ◌and◌
+returns-then-a-eq0 c = grind (arith, common_steps, state_bare c.args.tag c.args.a c.args.b (omega arith))
+
+pub returns-else-a-eq0 : goal.returns-else-a-eq0
+unfolding zeros ◌and◌
+returns-else-a-eq0 c = grind (arith, common_steps, state_bare c.args.tag c.args.a c.args.b (omega arith))
+
+pub returns-in_default : goal.returns-in_default
+returns-in_default c = state_else _ _ (omega arith)
