@@ -1,6 +1,6 @@
 -- What spawn does to the lent slices and the lent queue.
 use Rattle.std.specs.Prelude.{◌≡◌, Bool, true, false, List, ◌∷◌, ℕ}
-use Rattle.std.proofs.Math.Option.{Option, none, some}
+use Rattle.std.proofs.Math.Option.{none, some}
 use Rattle.asyncio.specs.declared.Header.{Header}
 use Rattle.rows.specs.Tables.{header_at}
 use Rattle.queue.specs.declared.ReadyQueue.{ReadyQueue}

@@ -7,9 +7,8 @@ use Rattle.asyncio.specs.Limits.{task_limit}
 use Rattle.asyncio.specs.declared.TaskId.{TaskId}
 use Rattle.asyncio.specs.declared.Header.{Header}
 use Rattle.rows.specs.Tables.{header_at}
-use Rattle.rows.specs.TableLaws.{header_at-fits}
 use Rattle.queue.specs.declared.ReadyQueue.{ReadyQueue}
-use Rattle.machine.specs.Store.{spawned, header}
+use Rattle.machine.specs.Store.{header}
 use Rattle.machine.specs.Scheduler.{task_of_in, task_of, spawn, spawn_unless}
 use Rattle.scheduler.specs.Search.{found_task}
 use Rattle.scheduler.specs.SearchLaws.{task-found, no_task}

@@ -6,6 +6,7 @@ ghost use Rattle.machine.specs.Machine.{is_empty, can_await_eagerly};
 ghost use Rattle.scheduler.specs.Ends.{clear_one, clear_from, Cleans};
 ghost use Rattle.contract.specs.Contract.{ReadsObjectsAndQueue};
 
+use crate::skip::{is_pending, skip_not_pending};
 use asyncio::{Awaiter, Header, HeapId, Moment, Objects, Task, TaskId, TaskState, Tasks};
 use queue::ReadyQueue;
 
@@ -13,15 +14,11 @@ use queue::ReadyQueue;
 pub fn no_call_pending(objects: &Objects) -> bool
     ensures { result ≡ is_empty (pending_calls_in objects.now) }
 {
-    let header = rows::tables::load_header(objects);
-    let made = header.made;
-    let mut o: u16 = crate::skip::skip_not_pending(objects, made);
-    while o < made {
-        let kind = rows::parts::kind_at(objects, HeapId::new(o));
-        if kind.is_pending_external() {
+    let made = rows::tables::load_header(objects).made;
+    for o in skip_not_pending(objects, made)..made {
+        if is_pending(objects, HeapId::new(o)) {
             return false;
         }
-        o += 1;
     }
     true
 }
@@ -30,16 +27,13 @@ pub fn no_call_pending(objects: &Objects) -> bool
 pub fn can_await_eagerly(objects: &Objects, queue: &ReadyQueue) -> bool
     ensures { ReadsObjectsAndQueue objects.now queue.now can_await_eagerly result }
 {
-    if queue.len == 0 {
-        let header = rows::tables::load_header(objects);
-        let moment = header.moment;
-        return match moment {
-            Moment::Running(_) => no_call_pending(objects),
-            Moment::Waiting => no_call_pending(objects),
-            Moment::Ended => true,
-        };
+    if queue.len != 0 {
+        return false;
     }
-    false
+    match rows::tables::load_header(objects).moment {
+        Moment::Ended => true,
+        _ => no_call_pending(objects),
+    }
 }
 
 // Row `t` cleared, if it is a live task's.
@@ -47,8 +41,7 @@ fn clear_one(tasks: &mut Tasks, t: TaskId)
     requires { t.0 < task_limit }
     ensures { tasks.new ≡ clear_one tasks.old t.0 }
 {
-    let state = rows::parts::state_at(tasks, t);
-    if state.is_live() {
+    if rows::parts::state_at(tasks, t).is_live() {
         let absent = Task {
             state: TaskState::Absent,
             awaiter: Awaiter::Nobody,
@@ -63,10 +56,8 @@ fn clear_tasks(tasks: &mut Tasks, next: u16)
     requires { next ≤ task_limit }
     ensures { tasks.new ≡ clear_from tasks.old 0 next }
 {
-    let mut t: u16 = 0;
-    while t < next {
+    for t in 0..next {
         clear_one(tasks, TaskId::new(t));
-        t += 1;
     }
 }
 

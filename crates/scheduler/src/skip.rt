@@ -12,8 +12,7 @@ pub(crate) fn is_pending(objects: &Objects, o: HeapId) -> bool
     requires { o.0 < object_limit }
     ensures { result ≡ is_pending objects.now o.0 }
 {
-    let kind = rows::parts::kind_at(objects, o);
-    kind.is_pending_external()
+    rows::parts::kind_at(objects, o).is_pending_external()
 }
 
 // Is one of the four objects from `o` on a pending external?

@@ -3,7 +3,7 @@ ghost use Rattle.std.specs.Prelude.{◌<◌};
 ghost use Rattle.asyncio.specs.Limits.{task_limit};
 ghost use Rattle.scheduler.specs.Spawn.{SpawnsTaskAs, SpawnsTask};
 
-use crate::tasks::{task_of};
+use crate::tasks::task_of;
 use asyncio::{Awaiter, Header, HeapId, Objects, TASKS, Task, TaskId, TaskState, Tasks};
 use queue::ReadyQueue;
 
@@ -22,7 +22,6 @@ fn spawn_as(
     ensures { SpawnsTaskAs tasks objects queue header c.0 g.0 }
 {
     let t = TaskId::new(header.next);
-    let moment = header.moment;
     let task = Task {
         state: TaskState::Unstarted,
         awaiter: Awaiter::GatherSlot {
@@ -35,17 +34,14 @@ fn spawn_as(
     rows::tables::store_header(
         objects,
         Header {
-            made: header.made,
-            used: header.used,
-            calls: header.calls,
             next: header.next + 1,
-            moment,
+            ..header
         },
     );
     queue.push_back(t);
 }
 
-// Whether a task was spawned: none where the coroutine already has a live task, or no number is left. The queue is lent.
+// Whether a task was spawned: none where the coroutine already has a live task, or no number is left.
 pub fn spawn(
     tasks: &mut Tasks,
     objects: &mut Objects,
@@ -56,16 +52,9 @@ pub fn spawn(
     ensures { SpawnsTask tasks objects queue c.0 g.0 result }
 {
     let header = rows::tables::load_header(objects);
-    let next = header.next;
-    let d = task_of(tasks, next, c);
-    match d {
-        Some(_) => false,
-        None => {
-            if next < LIMIT {
-                spawn_as(tasks, objects, queue, header, c, g);
-                return true;
-            }
-            false
-        }
+    if task_of(tasks, header.next, c).is_some() || LIMIT <= header.next {
+        return false;
     }
+    spawn_as(tasks, objects, queue, header, c, g);
+    true
 }

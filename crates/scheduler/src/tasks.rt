@@ -5,6 +5,7 @@ ghost use Rattle.rows.specs.Tables.{task_at};
 ghost use Rattle.machine.specs.Scheduler.{is_task_of, task_of_in, is_call, pending_external_in};
 ghost use Rattle.scheduler.specs.Search.{found_task, found_object};
 
+use crate::skip::{is_pending, skip_other_calls};
 use asyncio::{HeapId, Objects, TaskId, Tasks};
 
 // Does task `t` live and drive object `c`?
@@ -12,12 +13,7 @@ fn is_task_of(tasks: &Tasks, t: TaskId, c: HeapId) -> bool
     requires { t.0 < task_limit }
     ensures { result ≡ is_task_of c.0 (task_at tasks.now t.0) }
 {
-    let state = rows::parts::state_at(tasks, t);
-    if state.is_live() {
-        let coroutine = rows::parts::coroutine_at(tasks, t);
-        return coroutine.0 == c.0;
-    }
-    false
+    rows::parts::state_at(tasks, t).is_live() && rows::parts::coroutine_at(tasks, t) == c
 }
 
 // The live spawned task below `next` that drives object `c`.
@@ -25,13 +21,11 @@ pub(crate) fn task_of(tasks: &Tasks, next: u16, c: HeapId) -> Option<TaskId>
     requires { next ≤ task_limit }
     ensures { result ≡ found_task (task_of_in tasks.now next c.0) }
 {
-    let mut t: u16 = 1;
-    while t < next {
+    for t in 1..next {
         let id = TaskId::new(t);
         if is_task_of(tasks, id, c) {
             return Some(id);
         }
-        t += 1;
     }
     None
 }
@@ -41,12 +35,7 @@ pub(crate) fn is_call(objects: &Objects, call: u32, o: HeapId) -> bool
     requires { o.0 < object_limit }
     ensures { result ≡ is_call objects.now call o.0 }
 {
-    let kind = rows::parts::kind_at(objects, o);
-    if kind.is_pending_external() {
-        let c = rows::parts::call_at(objects, o);
-        return c.word() == call as u64;
-    }
-    false
+    is_pending(objects, o) && rows::parts::call_at(objects, o).word() == u64::from(call)
 }
 
 // The pending external of a call. It only searches: nothing is taken out, and the store stays. The number is compared whole, so that
@@ -54,15 +43,12 @@ pub(crate) fn is_call(objects: &Objects, call: u32, o: HeapId) -> bool
 pub fn take_pending_external(objects: &Objects, call: u32) -> Option<HeapId>
     ensures { result ≡ found_object (pending_external_in objects.now call) }
 {
-    let header = rows::tables::load_header(objects);
-    let made = header.made;
-    let mut o: u16 = crate::skip::skip_other_calls(objects, call, made);
-    while o < made {
+    let made = rows::tables::load_header(objects).made;
+    for o in skip_other_calls(objects, call, made)..made {
         let id = HeapId::new(o);
         if is_call(objects, call, id) {
             return Some(id);
         }
-        o += 1;
     }
     None
 }

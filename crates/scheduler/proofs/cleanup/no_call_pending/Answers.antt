@@ -1,6 +1,4 @@
-use Prim.Native.Nat.{◌-◌}
-use mathlib.Core.Path.{ap}
-use mathlib.Core.Bool.{true}
+use mathlib.Core.Path.{refl, ap}
 use native.Mathlib.Omega.{arith}
 use Rattle.asyncio.specs.declared.HeapId.{HeapId}
 use Rattle.rows.specs.TableLaws.{header_read}
@@ -8,22 +6,19 @@ use Rattle.scheduler.specs.EndLaws.{calls_none, pending-here, pending-turn, pend
 use Rattle.scheduler.proofs.cleanup.no_call_pending.Goals as goal
 
 pub skip_not_pending-o-requires : goal.skip_not_pending-o-requires
-skip_not_pending-o-requires c = (c.requires, omega (arith, (header_read _ c.load_header-header.ensures).made_fits))
+skip_not_pending-o-requires c = omega (arith, (header_read _ c.load_header-made.ensures).made_fits)
 
 pub loop-o-init : goal.loop-o-init
-loop-o-init c = (calls_none c.args.objects.now c.load_header-header.result.made c.skip_not_pending-o.result c.skip_not_pending-o.ensures, c.skip_not_pending-o.ensures.within)
+loop-o-init c = calls_none c.args.objects.now c.load_header-made.result.made c.skip_not_pending-o.result c.skip_not_pending-o.ensures
 
-pub kind_at-kind-requires : goal.kind_at-kind-requires
-kind_at-kind-requires c = (c.requires, omega (arith, (header_read _ c.load_header-header.ensures).made_fits, ap (λ (h : HeapId). h.0) c.new.ensures))
+pub is_pending-requires : goal.is_pending-requires
+is_pending-requires c = omega (arith, (header_read _ c.load_header-made.ensures).made_fits, ap (λ (h : HeapId). h.0) c.new.ensures)
 
-pub returns-then-is_pending_external : goal.returns-then-is_pending_external
-returns-then-is_pending_external c = pending-here c.args.objects.now c.loop-o.o (ap (λ (h : HeapId). h.0) c.new.ensures) c.kind_at-kind.ensures c.is_pending_external.ensures c.load_header-header.ensures c.loop-o-test.true c.if-is_pending_external.true
-
-pub overflow_add-o : goal.overflow_add-o
-overflow_add-o c = omega (arith, (header_read _ c.load_header-header.ensures).made_fits)
+pub returns-then-is_pending : goal.returns-then-is_pending
+returns-then-is_pending c = pending-here c.args.objects.now c.loop-o.o (ap (λ (h : HeapId). h.0) c.new.ensures) refl c.is_pending.ensures c.load_header-made.ensures c.loop-o-test.true c.if-is_pending.true
 
 pub loop-o-preserved : goal.loop-o-preserved
-loop-o-preserved c = (pending-turn c.args.objects.now c.loop-o.o (ap (λ (h : HeapId). h.0) c.new.ensures) c.kind_at-kind.ensures c.is_pending_external.ensures c.if-is_pending_external.false c.loop-o.invariant.0, omega arith)
+loop-o-preserved c = pending-turn c.args.objects.now c.loop-o.o (ap (λ (h : HeapId). h.0) c.new.ensures) refl c.is_pending.ensures c.if-is_pending.false c.loop-o.invariant
 
 pub returns : goal.returns
-returns c = pending-none c.args.objects.now c.loop-o.o c.load_header-header.ensures (omega arith) c.loop-o.invariant.0
+returns c = pending-none c.args.objects.now c.loop-o.o c.load_header-made.ensures (omega (arith, c.skip_not_pending-o.ensures.within)) c.loop-o.invariant

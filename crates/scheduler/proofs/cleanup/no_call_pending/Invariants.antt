@@ -1,4 +1,3 @@
-use Prim.Native.Nat.{◌≤◌, ◌-◌}
 use mathlib.Core.Path.{◌≡◌}
 use mathlib.Core.Bool.{true}
 use Rattle.machine.specs.Scheduler.{calls_below}
@@ -6,7 +5,4 @@ use Rattle.machine.specs.Machine.{is_empty}
 use Rattle.scheduler.proofs.cleanup.no_call_pending.Given as goal
 
 abbrev pub invariant-loop-o : goal.invariant-loop-o
-invariant-loop-o l = (is_empty (calls_below l.objects l.o) ≡ true) × (l.o ≤ l.made)
-
-abbrev pub decreases-loop-o : goal.decreases-loop-o
-decreases-loop-o l = l.made - l.o
+invariant-loop-o l = is_empty (calls_below l.objects l.o) ≡ true

@@ -1,5 +1,4 @@
 use mathlib.Core.Path.{sym, ◌∙◌}
-use Prim.Native.Nat.{◌-◌}
 use native.Mathlib.Omega.{arith}
 use Rattle.scheduler.specs.Skips.{is_pending}
 use Rattle.scheduler.specs.SkipLaws.{begins, begins_further}
@@ -12,7 +11,7 @@ pub overflow_sub-made : goal.overflow_sub-made
 overflow_sub-made c = omega (arith, c.loop-o.invariant.within)
 
 pub any_pending-requires : goal.any_pending-requires
-any_pending-requires c = (c.requires.0, omega (arith, c.loop-o.invariant.within))
+any_pending-requires c = omega (arith, c.loop-o.invariant.within)
 
 pub returns-then-any_pending : goal.returns-then-any_pending
 returns-then-any_pending c = c.loop-o.invariant

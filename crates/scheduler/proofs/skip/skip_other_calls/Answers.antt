@@ -1,5 +1,4 @@
 use mathlib.Core.Path.{sym, ◌∙◌}
-use Prim.Native.Nat.{◌-◌}
 use native.Mathlib.Omega.{arith}
 use Rattle.machine.specs.Scheduler.{is_call}
 use Rattle.scheduler.specs.SkipLaws.{begins, begins_further}
@@ -12,7 +11,7 @@ pub overflow_sub-made : goal.overflow_sub-made
 overflow_sub-made c = omega (arith, c.loop-o.invariant.within)
 
 pub any_called-requires : goal.any_called-requires
-any_called-requires c = (c.requires.0, omega (arith, c.loop-o.invariant.within))
+any_called-requires c = omega (arith, c.loop-o.invariant.within)
 
 pub returns-then-any_called : goal.returns-then-any_called
 returns-then-any_called c = c.loop-o.invariant

@@ -1,10 +1,10 @@
 use Rattle.machine.specs.Scheduler.{is_call}
 use Rattle.scheduler.proofs.tasks.is_call.Goals as goal
 
-pub returns-then-is_pending_external : goal.returns-then-is_pending_external
+pub returns-then-is_pending : goal.returns-then-is_pending
 unfolding is_call
-returns-then-is_pending_external c = rw (← c.kind_at-kind.ensures, ← c.is_pending_external.ensures, c.if-is_pending_external.true, c.word.ensures, c.call_at-c.ensures)
+returns-then-is_pending c = rw (← c.is_pending.ensures, c.if-is_pending.true, c.word.ensures, c.from.ensures, c.call_at.ensures)
 
-pub returns : goal.returns
+pub returns-else-is_pending : goal.returns-else-is_pending
 unfolding is_call
-returns c = rw (← c.kind_at-kind.ensures, ← c.is_pending_external.ensures, c.if-is_pending_external.false)
+returns-else-is_pending c = rw (← c.is_pending.ensures, c.if-is_pending.false)

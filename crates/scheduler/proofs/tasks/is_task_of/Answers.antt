@@ -3,8 +3,8 @@ use Rattle.scheduler.proofs.tasks.is_task_of.Goals as goal
 
 pub returns-then-is_live : goal.returns-then-is_live
 unfolding is_task_of
-returns-then-is_live c = rw (← c.state_at-state.ensures, ← c.is_live.ensures, c.if-is_live.true, c.coroutine_at-coroutine.ensures)
+returns-then-is_live c = rw (← c.state_at.ensures, ← c.is_live.ensures, c.if-is_live.true, c.eq.ensures, c.coroutine_at.ensures)
 
-pub returns : goal.returns
+pub returns-else-is_live : goal.returns-else-is_live
 unfolding is_task_of
-returns c = rw (← c.state_at-state.ensures, ← c.is_live.ensures, c.if-is_live.false)
+returns-else-is_live c = rw (← c.state_at.ensures, ← c.is_live.ensures, c.if-is_live.false)

@@ -5,6 +5,3 @@ use Rattle.scheduler.proofs.tasks.take_pending_external.Given as goal
 
 abbrev pub invariant-loop-o : goal.invariant-loop-o
 invariant-loop-o l = first_from (is_call l.objects l.call) l.o (l.made - l.o) ≡ pending_external_in l.objects l.call
-
-abbrev pub decreases-loop-o : goal.decreases-loop-o
-decreases-loop-o l = l.made - l.o

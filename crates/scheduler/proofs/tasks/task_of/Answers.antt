@@ -1,5 +1,5 @@
 use Rattle.std.specs.Prelude.{Some}
-use Prim.Native.Nat.{ℕ, ◌-◌}
+use Prim.Native.Nat.{ℕ}
 use mathlib.Core.Path.{sym, ap, ◌∙◌}
 use native.Mathlib.Omega.{arith}
 use Rattle.asyncio.specs.declared.TaskId.{TaskId}
@@ -13,7 +13,7 @@ pub loop-t-init : goal.loop-t-init
 loop-t-init c = task_of-begins _ _ _
 
 pub is_task_of-requires : goal.is_task_of-requires
-is_task_of-requires c = (c.requires.0, omega (arith, ap (λ (u : TaskId). u.0) c.new-id.ensures))
+is_task_of-requires c = omega (arith, ap (λ (u : TaskId). u.0) c.new-id.ensures)
 
 pub returns-then-is_task_of : goal.returns-then-is_task_of
 returns-then-is_task_of c = ap Some c.new-id.ensures ∙ ap found_task (sym (first_here (λ (u : ℕ). is_task_of c.args.c.0 (task_at c.args.tasks.now u)) c.loop-t.t c.args.next c.loop-t-test.true (ap (λ (u : TaskId). u.0) c.new-id.ensures) (sym c.if-is_task_of.true ∙ c.is_task_of.ensures)) ∙ c.loop-t.invariant)

@@ -6,6 +6,3 @@ use Rattle.scheduler.proofs.tasks.task_of.Given as goal
 
 abbrev pub invariant-loop-t : goal.invariant-loop-t
 invariant-loop-t l = first_from (λ (u : ℕ). is_task_of l.c.0 (task_at l.tasks u)) l.t (l.next - l.t) ≡ task_of_in l.tasks l.next l.c.0
-
-abbrev pub decreases-loop-t : goal.decreases-loop-t
-decreases-loop-t l = l.next - l.t
