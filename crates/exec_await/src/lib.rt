@@ -3,8 +3,9 @@
 
 ghost use Rattle.std.specs.Prelude.{◌<◌};
 ghost use Rattle.asyncio.specs.Limits.{task_limit, object_limit};
-ghost use Rattle.machine.specs.Events.{stays, raises, go_on, await_coroutine, await_external_future, await_gather, exec_get_awaitable};
+ghost use Rattle.machine.specs.Events.{stays, go_on, await_coroutine, await_external_future, await_gather, exec_get_awaitable};
 ghost use Rattle.exec_poll.specs.Polls.{poll_of};
+ghost use Rattle.exec_switch.specs.Control.{how_of};
 ghost use Rattle.exec_await.specs.Awaits.{AwaitsKeepingPlaces, AwaitsOfObjects, AwaitsOfNothing, Awaits};
 
 use asyncio::{Awaiter, CallId, CoroutineState, Error, ExternalFutureState, GatherState, HeapId, Object, Objects, Places, TaskId, Tasks, Value};
@@ -16,10 +17,20 @@ use exec_switch::cycle::switch_or_yield;
 use scheduler_states::states::block_current_on;
 
 // Who has control after an await, and the number of commit steps.
-#[derive(Drop)]
+#[derive(Clone, Copy, PartialEq, Eq, Debug)]
 pub struct Awaited {
     pub control: Control,
     pub steps: u16,
+}
+
+// The task goes on at once.
+fn stay(t: TaskId, how: How, steps: u16) -> Awaited
+    ensures { AwaitsOfNothing (λ s. stays s t.0 (how_of how) steps) result }
+{
+    Awaited {
+        control: Control::Runs { task: t, how },
+        steps,
+    }
 }
 
 // A value or an error is the task's own. Otherwise it blocks on object `o`, and another runs.
@@ -37,20 +48,8 @@ fn go_on(
         (λ s. go_on t.0 o.0 steps s (poll_of poll)) result }
 {
     match poll {
-        Poll::Ready(v) => Awaited {
-            control: Control::Runs {
-                task: t,
-                how: How::Value(v),
-            },
-            steps,
-        },
-        Poll::Raised(e) => Awaited {
-            control: Control::Runs {
-                task: t,
-                how: How::Raised(e),
-            },
-            steps,
-        },
+        Poll::Ready(v) => stay(t, How::Value(v), steps),
+        Poll::Raised(e) => stay(t, How::Raised(e), steps),
         Poll::Pending => {
             block_current_on(tasks, t, o);
             let control = switch_or_yield(tasks, objects, queue);
@@ -81,29 +80,9 @@ fn await_coroutine(
                     state: CoroutineState::Running,
                 },
             );
-            Awaited {
-                control: Control::Runs {
-                    task: t,
-                    how: How::Inline(o),
-                },
-                steps: 0,
-            }
+            stay(t, How::Inline(o), 0)
         }
-        CoroutineState::Running => raise(t, Error::CoroutineReuse),
-        CoroutineState::Completed => raise(t, Error::CoroutineReuse),
-    }
-}
-
-// The task goes on with an error, at once and without a commit.
-fn raise(t: TaskId, error: Error) -> Awaited
-    ensures { AwaitsOfNothing (λ s. stays s t.0 (raises error) 0) result }
-{
-    Awaited {
-        control: Control::Runs {
-            task: t,
-            how: How::Raised(error),
-        },
-        steps: 0,
+        _ => stay(t, How::Raised(Error::CoroutineReuse), 0),
     }
 }
 
@@ -117,7 +96,7 @@ fn await_external_future(
     call: CallId,
     state: ExternalFutureState,
 ) -> Awaited
-    requires { t.0 < task_limit × o.0 < object_limit }
+    requires { (t.0 < task_limit) × (o.0 < object_limit) }
     ensures { AwaitsKeepingPlaces tasks objects queue
         (λ s. await_external_future s t.0 o.0 call state) result }
 {
@@ -135,29 +114,18 @@ fn await_gather_future(
     o: HeapId,
     state: GatherState,
 ) -> Awaited
-    requires { t.0 < task_limit × o.0 < object_limit }
+    requires { (t.0 < task_limit) × (o.0 < object_limit) }
     ensures { Awaits tasks objects places queue
         (λ s. await_gather s t.0 o.0 state) result }
 {
     match state {
         GatherState::Pending => {
-            let c = commit_gather_tree(tasks, objects, places, queue, o, Awaiter::Task(t));
-            let poll = c.poll;
-            let steps = c.steps;
-            go_on(tasks, objects, queue, t, o, steps, poll)
+            let committed = commit_gather_tree(tasks, objects, places, queue, o, Awaiter::Task(t));
+            go_on(tasks, objects, queue, t, o, committed.steps, committed.poll)
         }
-        GatherState::Awaited {
-            awaiter: _,
-            open_places: _,
-        } => raise(t, Error::GatherReuse),
-        GatherState::Completed => Awaited {
-            control: Control::Runs {
-                task: t,
-                how: How::Value(Value::List(o)),
-            },
-            steps: 0,
-        },
-        GatherState::Failed(e) => raise(t, e),
+        GatherState::Awaited { .. } => stay(t, How::Raised(Error::GatherReuse), 0),
+        GatherState::Completed => stay(t, How::Value(Value::List(o)), 0),
+        GatherState::Failed(e) => stay(t, How::Raised(e), 0),
     }
 }
 
@@ -170,24 +138,21 @@ pub fn exec_get_awaitable(
     t: TaskId,
     o: HeapId,
 ) -> Awaited
-    requires { t.0 < task_limit × o.0 < object_limit }
+    requires { (t.0 < task_limit) × (o.0 < object_limit) }
     ensures { Awaits tasks objects places queue
         (λ s. exec_get_awaitable s t.0 o.0) result }
 {
-    let x = rows::tables::load_object(objects, o);
-    match x {
+    match rows::tables::load_object(objects, o) {
         Object::Unmade => Awaited {
             control: Control::Waits,
             steps: 0,
         },
-        Object::Coroutine { function, state } => { await_coroutine(objects, t, o, function, state) }
+        Object::Coroutine { function, state } => await_coroutine(objects, t, o, function, state),
         Object::ExternalFuture { call, state } => {
             await_external_future(tasks, objects, queue, t, o, call, state)
         }
-        Object::GatherFuture {
-            first: _,
-            count: _,
-            state,
-        } => await_gather_future(tasks, objects, places, queue, t, o, state),
+        Object::GatherFuture { state, .. } => {
+            await_gather_future(tasks, objects, places, queue, t, o, state)
+        }
     }
 }

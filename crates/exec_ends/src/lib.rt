@@ -24,7 +24,7 @@ fn completed(x: Object) -> Object
     ensures { result ≡ completed x }
 {
     match x {
-        Object::Coroutine { function, state: _ } => Object::Coroutine {
+        Object::Coroutine { function, .. } => Object::Coroutine {
             function,
             state: CoroutineState::Completed,
         },
@@ -55,11 +55,9 @@ fn handle_task_completion(
         (λ s. handle_task_completion s t.0 value) result }
 {
     let task = rows::tables::load_task(tasks, t);
-    let awaiter = task.awaiter;
-    let coroutine = task.coroutine;
-    complete_coroutine(objects, coroutine);
+    complete_coroutine(objects, task.coroutine);
     remove_task(tasks, queue, t);
-    let woken = deliver_awaiter_success(tasks, objects, places, awaiter, value);
+    let woken = deliver_awaiter_success(tasks, objects, places, task.awaiter, value);
     queue_woken(queue, woken);
     resume_after_task_exit(tasks, objects, queue, woken)
 }
@@ -111,11 +109,11 @@ pub fn resume_with_resolved_futures(
 ) -> Answer
     ensures { AnswersKeepingPlaces tasks objects queue resume_with_resolved_futures result }
 {
-    if queue.len == 0 {
-        if no_call_pending(objects) {
-            return Answer::Stalled;
-        }
-        return Answer::Switched(Control::Waits);
+    if 0 < queue.len {
+        return Answer::Switched(switch_or_yield(tasks, objects, queue));
     }
-    Answer::Switched(switch_or_yield(tasks, objects, queue))
+    if no_call_pending(objects) {
+        return Answer::Stalled;
+    }
+    Answer::Switched(Control::Waits)
 }

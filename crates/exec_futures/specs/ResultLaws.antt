@@ -1,8 +1,8 @@
 -- The ways through apply_result and the loop of apply_future_results, in the shape of what the code knows there.
-use Rattle.std.specs.Prelude.{◌≡◌, List, [], ◌∷◌, ℕ, zero, suc, ◌+◌, ◌*◌, ◌/◌, ◌≤◌, eqb, length, None, Some}
+use Rattle.std.specs.Prelude.{◌≡◌, List, [], ◌∷◌, ℕ, zero, suc, ◌+◌, ◌*◌, ◌/◌, ◌≤◌, eqb, length, Bool, true, false, Option, None, Some}
 use Rattle.std.proofs.Math.Path.{refl}
 use Rattle.std.proofs.Common.{sym, ap, ◌∙◌, add-one, arith}
-use borrow.Author.Tests.{eq-eqb, ne_eqb}
+use Rattle.asyncio.specs.States.{pick}
 use Rattle.asyncio.specs.Layout.{to_value, to_error}
 use Rattle.asyncio.specs.declared.Value.{Value}
 use Rattle.asyncio.specs.declared.Error.{Error}
@@ -16,45 +16,63 @@ use Rattle.machine.specs.Store.{Store, LogEntry, store_of, put_queue}
 use Rattle.machine.specs.Delivery.{resolve_future, fail_future}
 use Rattle.machine.specs.Events.{Result, apply_result, apply_future_results, wake_in_order}
 use Rattle.contract.specs.Contract.{same_store}
-use Rattle.exec_futures.specs.Results.{result_at, results_from, results_in}
+use Rattle.exec_futures.specs.Results.{kind_of, result_at, results_from, results_in}
+use Rattle.exec_futures.specs.declared.results.ResultKind.{ResultKind}
 
-module _ (ts os ps : List ℕ) (q : ReadyQueue) (l : List LogEntry) (r : Result) {call kind : ℕ} (c : call ≡ r.call) (k : kind ≡ r.kind) where
+-- what a result of a kind does
+applied_as : Store → Result → Option ResultKind → Store
+applied_as s r (Some ResultKind.Return) = resolve_future s r.call (to_value r.tag r.number)
+applied_as s r (Some ResultKind.Error) = fail_future s r.call (to_error 0 r.number)
+applied_as s r (Some ResultKind.StillFuture) = s
+applied_as s r (Some ResultKind.NotFound) = fail_future s r.call Error.NotFound
+applied_as s r (Some ResultKind.ModuleFile) = fail_future s r.call Error.ModuleFile
+applied_as s r None = fail_future s r.call Error.ModuleFile
+
+applies : (s : Store) (r : Result) → apply_result s r ≡ applied_as s r (kind_of r.kind)
+unfolding apply_result applied_as
+applies s r = by (eqb r.kind 0) (eqb r.kind 1) (eqb r.kind 2) (eqb r.kind 3) (eqb r.kind 4)
+  where
+    by : (a b c d e : Bool)
+        → pick a (resolve_future s r.call (to_value r.tag r.number))
+        (pick b (fail_future s r.call (to_error 0 r.number))
+        (pick c s
+        (pick d (fail_future s r.call Error.NotFound)
+        (fail_future s r.call Error.ModuleFile))))
+        ≡ applied_as s r
+        (pick a (Some ResultKind.Return)
+        (pick b (Some ResultKind.Error)
+        (pick c (Some ResultKind.StillFuture)
+        (pick d (Some ResultKind.NotFound)
+        (pick e (Some ResultKind.ModuleFile) None)))))
+    by true b c d e = refl
+    by false true c d e = refl
+    by false false true d e = refl
+    by false false false true e = refl
+    by false false false false true = refl
+    by false false false false false = refl
+
+-- so a result of a kind leaves what its kind does
+module _ (ts os ps : List ℕ) (q : ReadyQueue) (l : List LogEntry) (r : Result) {k : Option ResultKind} (e : k ≡ kind_of r.kind) where
   abbrev here : Store
   here = store_of ts os ps q l
 
-  pub applies_value : kind ≡ 0 → {tag number : ℕ} → tag ≡ r.tag → number ≡ r.number → {v : Value} → v ≡ to_value tag number → {ts' os' ps' : List ℕ} {q' : ReadyQueue}
-      → store_of ts' os' ps' q' (resolve_future here call v).log ≡ resolve_future here call v → store_of ts' os' ps' q' (apply_result here r).log ≡ apply_result here r
-  applies_value z {tag} {number} t n {v} u x =
-      let e : apply_result here r ≡ resolve_future here call v = unfold apply_result in (rw (← k, eq-eqb kind 0 z, c, u, t, n)) in
-      same_store e x
+  does : {x : Option ResultKind} → k ≡ x → {u : Store} → applied_as here r x ≡ u → apply_result here r ≡ u
+  does f d = applies here r ∙ ap (applied_as here r) (sym e ∙ f) ∙ d
 
-  module _ (z : kind ≡ 0 → ⊥) where
-    pub applies_error : kind ≡ 1 → {number : ℕ} → number ≡ r.number → {x : Error} → x ≡ to_error 0 number → {ts' os' ps' : List ℕ} {q' : ReadyQueue}
-        → store_of ts' os' ps' q' (fail_future here call x).log ≡ fail_future here call x → store_of ts' os' ps' q' (apply_result here r).log ≡ apply_result here r
-    applies_error y {number} n {x} u d =
-        let e : apply_result here r ≡ fail_future here call x = unfold apply_result in (rw (← k, ne_eqb kind 0 z, eq-eqb kind 1 y, c, u, n)) in
-        same_store e d
+  pub returns-value : k ≡ Some ResultKind.Return → {ts' os' ps' : List ℕ} {q' : ReadyQueue}
+      → store_of ts' os' ps' q' (resolve_future here r.call (to_value r.tag r.number)).log ≡ resolve_future here r.call (to_value r.tag r.number)
+      → store_of ts' os' ps' q' (apply_result here r).log ≡ apply_result here r
+  unfolding applied_as
+  returns-value f d = same_store (does f refl) d
 
-    module _ (y : kind ≡ 1 → ⊥) where
-      pub applies_nothing : kind ≡ 2 → store_of ts os ps q (apply_result here r).log ≡ apply_result here r
-      applies_nothing w =
-          let e : apply_result here r ≡ here = unfold apply_result in (rw (← k, ne_eqb kind 0 z, ne_eqb kind 1 y, eq-eqb kind 2 w)) in
-          same_store e refl
+  pub still_future : k ≡ Some ResultKind.StillFuture → store_of ts os ps q (apply_result here r).log ≡ apply_result here r
+  unfolding applied_as
+  still_future f = same_store (does f refl) refl
 
-      module _ (w : kind ≡ 2 → ⊥) {ts' os' ps' : List ℕ} {q' : ReadyQueue} where
-        pub applies_not_found : kind ≡ 3 → store_of ts' os' ps' q' (fail_future here call Error.NotFound).log ≡ fail_future here call Error.NotFound
-            → store_of ts' os' ps' q' (apply_result here r).log ≡ apply_result here r
-        applies_not_found v d =
-            let e : apply_result here r ≡ fail_future here call Error.NotFound =
-            unfold apply_result in (rw (← k, ne_eqb kind 0 z, ne_eqb kind 1 y, ne_eqb kind 2 w, eq-eqb kind 3 v, c)) in
-            same_store e d
-
-        pub applies_module_file : (kind ≡ 3 → ⊥) → store_of ts' os' ps' q' (fail_future here call Error.ModuleFile).log ≡ fail_future here call Error.ModuleFile
-            → store_of ts' os' ps' q' (apply_result here r).log ≡ apply_result here r
-        applies_module_file v d =
-            let e : apply_result here r ≡ fail_future here call Error.ModuleFile =
-            unfold apply_result in (rw (← k, ne_eqb kind 0 z, ne_eqb kind 1 y, ne_eqb kind 2 w, ne_eqb kind 3 v, c)) in
-            same_store e d
+  pub fails-with : (x : Error) → applied_as here r k ≡ fail_future here r.call x → {ts' os' ps' : List ℕ} {q' : ReadyQueue}
+      → store_of ts' os' ps' q' (fail_future here r.call x).log ≡ fail_future here r.call x
+      → store_of ts' os' ps' q' (apply_result here r).log ≡ apply_result here r
+  fails-with x f d = same_store (does refl f) d
 
 -- ---- one after the other
 

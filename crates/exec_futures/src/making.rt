@@ -15,16 +15,13 @@ fn add_object(objects: &mut Objects, x: Object, n: u16) -> HeapId
     ensures { MakesObject objects (λ s. add_object s x n) result }
 {
     let header = rows::tables::load_header(objects);
-    let moment = header.moment;
     let o = HeapId::new(header.made);
     rows::tables::store_header(
         objects,
         Header {
             made: header.made + 1,
             used: header.used + n,
-            calls: header.calls,
-            next: header.next,
-            moment,
+            ..header
         },
     );
     rows::tables::store_object(objects, o, x);
@@ -38,22 +35,18 @@ pub fn allocate_call_id(objects: &mut Objects) -> CallId
         (λ s. set_calls s (result.0 + 1)) }
 {
     let header = rows::tables::load_header(objects);
-    let moment = header.moment;
-    let n = header.calls;
     rows::tables::store_header(
         objects,
         Header {
-            made: header.made,
-            used: header.used,
-            calls: n + 1,
-            next: header.next,
-            moment,
+            calls: header.calls + 1,
+            ..header
         },
     );
-    CallId::new(n)
+    CallId::new(header.calls)
 }
 
 // A new coroutine of a function.
+#[tactic(auto, unfolding(machine::specs::Events::make_coroutine))]
 pub fn make_coroutine(objects: &mut Objects, function: u32) -> HeapId
     requires { HasRoom objects.old }
     ensures { MakesObject objects (λ s. make_coroutine s function) result }
@@ -66,6 +59,7 @@ pub fn make_coroutine(objects: &mut Objects, function: u32) -> HeapId
 }
 
 // An external of a call, with a stored result or none (add_pending_call, add_pending_sleep).
+#[tactic(auto, unfolding(machine::specs::Events::make_pending))]
 pub fn push_pending_future(objects: &mut Objects, call: CallId, stored: Option<Value>) -> HeapId
     requires { HasRoom objects.old }
     ensures { MakesObject objects (λ s. make_pending s call.0 stored) result }
@@ -98,15 +92,12 @@ fn put_items(places: &mut Places, first: usize, items: &[u16])
     requires { first + length items.now ≤ place_limit }
     ensures { ChangesPlaces places (λ s. put_items s first items.now) }
 {
-    let n = items.len();
-    let mut i: usize = 0;
-    while i < n {
+    for (i, &item) in items.iter().enumerate() {
         let place = Place {
-            item: HeapId::new(items[i]),
+            item: HeapId::new(item),
             result: None,
         };
         rows::tables::store_place(places, first + i, place);
-        i += 1;
     }
 }
 
@@ -116,14 +107,13 @@ pub fn make_gather(objects: &mut Objects, places: &mut Places, items: &[u16]) ->
     ensures { MakesGather objects places
         (λ s. make_gather s items.now) result }
 {
-    let header = rows::tables::load_header(objects);
-    let first = header.used;
-    let n = items.len() as u16;
+    let first = rows::tables::load_header(objects).used;
+    let count = items.len() as u16;
     put_items(places, first as usize, items);
     let x = Object::GatherFuture {
         first,
-        count: n,
+        count,
         state: GatherState::Pending,
     };
-    add_object(objects, x, n)
+    add_object(objects, x, count)
 }

@@ -10,6 +10,7 @@ use Rattle.asyncio.specs.Ranges.{AwaiterFits}
 use Rattle.asyncio.specs.declared.HeapId.{HeapId}
 use Rattle.asyncio.specs.declared.TaskId.{TaskId}
 use Rattle.asyncio.specs.declared.Error.{Error}
+use Rattle.asyncio.specs.declared.Value.{Value}
 use Rattle.asyncio.specs.declared.Awaiter.{Awaiter}
 use Rattle.asyncio.specs.declared.TaskState.{TaskState}
 use Rattle.asyncio.specs.declared.CoroutineState.{CoroutineState}
@@ -41,6 +42,20 @@ pub front_fits : (q : ReadyQueue) → (front_of q).0 < task_limit
 unfolding front_of
 front_fits q = mod-lt (get_or q.ids 0 0) (omega arith)
 
+-- what is no coroutine has no function to start, and no coroutine that is not new has one
+pub no_new_function : (x : Object) → ((f : ℕ) (s : CoroutineState) → x ≡ Object.Coroutine f s → ⊥) → new_function x ≡ none
+unfolding new_function
+no_new_function Object.Unmade h = refl
+no_new_function (Object.Coroutine f s) h = absurd (h f s refl)
+no_new_function (Object.ExternalFuture c s) h = refl
+no_new_function (Object.GatherFuture i n s) h = refl
+
+pub new_function-none : (f : ℕ) (s : CoroutineState) → (s ≡ CoroutineState.New → ⊥) → new_function (Object.Coroutine f s) ≡ none
+unfolding new_function
+new_function-none f CoroutineState.New h = absurd (h refl)
+new_function-none f CoroutineState.Running h = refl
+new_function-none f CoroutineState.Completed h = refl
+
 -- a task is run, or the host has control: nothing is logged
 module _ (s : Store) {ts os ps : List ℕ} {q : ReadyQueue} (c : Control) where
   run-logs : (t : ℕ) (h : How) → switched_of (store_of ts os ps q s.log) c ≡ run s t h
@@ -69,6 +84,21 @@ module _ (ts os ps : List ℕ) (q : ReadyQueue) (l : List LogEntry) where
     pub activate_yields : activate_state activate here t a ≡ yield here → {os' : List ℕ} {q' : ReadyQueue} (c : Control)
         → switched_of (store_of ts os' ps q' l) c ≡ yield here → switched_of (store_of ts os' ps q' (activate here t).store.log) c ≡ activate here t
     activate_yields g c r = same_switch (by_state ∙ g) c (yield-logs here c r)
+
+    -- a task that is neither unstarted nor ready
+    pub activate-others : (a ≡ TaskState.Unstarted → ⊥) → ((v : Value) → a ≡ TaskState.Woken v → ⊥) → ((x : Error) → a ≡ TaskState.Raised x → ⊥)
+        → activate_state activate here t a ≡ yield here
+    unfolding activate_state
+    activate-others u v r = others a u v r
+      where
+        others : (x : TaskState) → (x ≡ TaskState.Unstarted → ⊥) → ((v : Value) → x ≡ TaskState.Woken v → ⊥) → ((e : Error) → x ≡ TaskState.Raised e → ⊥)
+            → activate_state activate here t x ≡ yield here
+        others TaskState.Absent u v r = refl
+        others TaskState.Unstarted u v r = absurd (u refl)
+        others TaskState.Running u v r = refl
+        others (TaskState.Woken x) u v r = absurd (v x refl)
+        others (TaskState.Raised x) u v r = absurd (r x refl)
+        others (TaskState.Blocked o) u v r = refl
 
     pub activate-runs : (k : How) → activate_state activate here t a ≡ run here t k → {ts' os' : List ℕ} {q' : ReadyQueue} (c : Control)
         → switched_of (store_of ts' os' ps q' l) c ≡ run here t k → switched_of (store_of ts' os' ps q' (activate here t).store.log) c ≡ activate here t

@@ -23,20 +23,12 @@ pub enum Control {
 }
 
 // The moment of the session.
+#[tactic(auto, unfolding(crate::specs::Control::moment_put))]
 fn set_moment(objects: &mut Objects, moment: Moment)
     ensures { objects.new ≡ moment_put objects.old moment }
 {
     let header = rows::tables::load_header(objects);
-    rows::tables::store_header(
-        objects,
-        Header {
-            made: header.made,
-            used: header.used,
-            calls: header.calls,
-            next: header.next,
-            moment,
-        },
-    );
+    rows::tables::store_header(objects, Header { moment, ..header });
 }
 
 // Task `t` runs.

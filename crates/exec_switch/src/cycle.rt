@@ -1,5 +1,5 @@
 // Starting a task, failing it and resuming the next call each other; at each failed start one live task less is left.
-// The queue is lent as its array and its count: by value each level would hold several queues, and a sound chain of failures would end a thread of 2 MB.
+// The queue is lent: by value each level would hold several queues, and a sound chain of failures would end a thread of 2 MB.
 ghost use Rattle.std.specs.Prelude.{◌≡◌, ◌<◌};
 ghost use Rattle.asyncio.specs.Limits.{task_limit, object_limit};
 ghost use Rattle.rows.specs.Tables.{object_at};
@@ -18,20 +18,12 @@ fn new_function(objects: &Objects, c: HeapId) -> Option<u32>
     requires { c.0 < object_limit }
     ensures { result ≡ function_of (new_function (object_at objects.now c.0)) }
 {
-    let x = rows::tables::load_object(objects, c);
-    match x {
-        Object::Unmade => None,
-        Object::ExternalFuture { call: _, state: _ } => None,
-        Object::GatherFuture {
-            first: _,
-            count: _,
-            state: _,
-        } => None,
-        Object::Coroutine { function, state } => match state {
-            CoroutineState::New => Some(function),
-            CoroutineState::Running => None,
-            CoroutineState::Completed => None,
-        },
+    match rows::tables::load_object(objects, c) {
+        Object::Coroutine {
+            function,
+            state: CoroutineState::New,
+        } => Some(function),
+        _ => None,
     }
 }
 
@@ -46,14 +38,11 @@ fn activate_task(
     requires { t.0 < task_limit }
     ensures { SwitchesKeepingPlaces tasks objects queue (λ s. activate s t.0) result }
 {
-    let state = rows::parts::state_at(tasks, t);
-    match state {
-        TaskState::Absent => yield_control(objects),
+    match rows::parts::state_at(tasks, t) {
         TaskState::Unstarted => start_task(tasks, objects, queue, t),
-        TaskState::Running => yield_control(objects),
         TaskState::Woken(v) => run(tasks, objects, t, How::Value(v)),
         TaskState::Raised(e) => run(tasks, objects, t, How::Raised(e)),
-        TaskState::Blocked(_) => yield_control(objects),
+        _ => yield_control(objects),
     }
 }
 
@@ -69,36 +58,19 @@ fn start_task(
     ensures { SwitchesKeepingPlaces tasks objects queue
         (λ s. start_task activate s t.0) result }
 {
-    let c = rows::parts::coroutine_at(tasks, t);
-    let f = new_function(objects, c);
-    match f {
-        None => handle_task_failure(
-            tasks,
-            objects,
-            queue,
-            t,
-            Error::CoroutineReuse,
-        ),
-        Some(function) => {
-            rows::tables::store_object(
-                objects,
-                c,
-                Object::Coroutine {
-                    function,
-                    state: CoroutineState::Running,
-                },
-            );
-            run(
-                tasks,
-                objects,
-                t,
-                How::Start {
-                    coroutine: c,
-                    function,
-                },
-            )
-        }
-    }
+    let coroutine = rows::parts::coroutine_at(tasks, t);
+    let Some(function) = new_function(objects, coroutine) else {
+        return handle_task_failure(tasks, objects, queue, t, Error::CoroutineReuse);
+    };
+    rows::tables::store_object(
+        objects,
+        coroutine,
+        Object::Coroutine {
+            function,
+            state: CoroutineState::Running,
+        },
+    );
+    run(tasks, objects, t, How::Start { coroutine, function })
 }
 
 // The task's awaiter gets the error, and the task goes. Its coroutine keeps its state.
@@ -133,13 +105,11 @@ pub fn resume_after_task_exit(
     ensures { SwitchesKeepingPlaces tasks objects queue
         (λ s. resume_after_task_exit activate (delivered s woken)) result }
 {
-    match woken {
-        None => switch_or_yield(tasks, objects, queue),
-        Some(t) => {
-            queue.remove(t);
-            activate_task(tasks, objects, queue, t)
-        }
-    }
+    let Some(t) = woken else {
+        return switch_or_yield(tasks, objects, queue);
+    };
+    queue.remove(t);
+    activate_task(tasks, objects, queue, t)
 }
 
 // The task at the queue's front, or the host.

@@ -1,26 +1,15 @@
+use Rattle.std.proofs.Common.{rules}
+use mathlib.Core.Path.{◌∙◌}
 use Rattle.machine.specs.Events.{new_function}
+use Rattle.exec_switch.specs.CycleLaws.{new_function-none, no_new_function}
 use Rattle.exec_switch.proofs.cycle.new_function.Goals as goal
 
-pub returns-in-Unmade : goal.returns-in-Unmade
+pub returns-in-Coroutine-default-New : goal.returns-in-Coroutine-default-New
 unfolding new_function
-returns-in-Unmade c = rw (← c.load_object-x.ensures, c.in-Unmade.is)
+returns-in-Coroutine-default-New c = rw (← c.load_object.ensures, c.in-Coroutine-default-New.is, c.in-Coroutine-default-New.state-is)
 
-pub returns-in-ExternalFuture : goal.returns-in-ExternalFuture
-unfolding new_function
-returns-in-ExternalFuture c = rw (← c.load_object-x.ensures, c.in-ExternalFuture.is)
+pub returns-in_default : goal.returns-in_default
+returns-in_default c = rw (← c.load_object.ensures, c.in_default.is, new_function-none c.in_default.field-0 c.in_default.field-1 (search rules))
 
-pub returns-in-GatherFuture : goal.returns-in-GatherFuture
-unfolding new_function
-returns-in-GatherFuture c = rw (← c.load_object-x.ensures, c.in-GatherFuture.is)
-
-pub returns-in-New : goal.returns-in-New
-unfolding new_function
-returns-in-New c = rw (← c.load_object-x.ensures, c.in-Coroutine.is, c.in-New.is)
-
-pub returns-in-Running : goal.returns-in-Running
-unfolding new_function
-returns-in-Running c = rw (← c.load_object-x.ensures, c.in-Coroutine.is, c.in-Running.is)
-
-pub returns-in-Completed : goal.returns-in-Completed
-unfolding new_function
-returns-in-Completed c = rw (← c.load_object-x.ensures, c.in-Coroutine.is, c.in-Completed.is)
+pub returns-in_default-2 : goal.returns-in_default-2
+returns-in_default-2 c = rw (← c.load_object.ensures, no_new_function c.load_object.result (search rules))
