@@ -37,15 +37,16 @@ module _ (ts os ps : List ℕ) (q : ReadyQueue) (l : List LogEntry) (t : TaskId)
   -- ---- go_on
 
   module _ (n : ℕ) (p : Poll) where
-    pub goes-ready : (v : Value) → p ≡ Poll.Ready v
-        → awaited_of (store_of ts os ps q (go_on t.0 o.0 n here (poll_of p)).store.log) (Control.Runs t (How.Value v)) n ≡ go_on t.0 o.0 n here (poll_of p)
+    -- a value or an error: the task goes on at once
+    pub goes-ready : (v : Value) → p ≡ Poll.Ready v → (c : Control) (m : ℕ) → awaited_of here c m ≡ stays here t.0 (machine.value v) n
+        → awaited_of (store_of ts os ps q (go_on t.0 o.0 n here (poll_of p)).store.log) c m ≡ go_on t.0 o.0 n here (poll_of p)
     unfolding go_on stays
-    goes-ready v e = rw e
+    goes-ready v e c m r = rw e r
 
-    pub goes-raised : (x : Error) → p ≡ Poll.Raised x
-        → awaited_of (store_of ts os ps q (go_on t.0 o.0 n here (poll_of p)).store.log) (Control.Runs t (How.Raised x)) n ≡ go_on t.0 o.0 n here (poll_of p)
+    pub goes-raised : (x : Error) → p ≡ Poll.Raised x → (c : Control) (m : ℕ) → awaited_of here c m ≡ stays here t.0 (raises x) n
+        → awaited_of (store_of ts os ps q (go_on t.0 o.0 n here (poll_of p)).store.log) c m ≡ go_on t.0 o.0 n here (poll_of p)
     unfolding go_on stays
-    goes-raised x e = rw e
+    goes-raised x e c m r = rw e r
 
     pub goes-blocked : p ≡ Poll.Pending → {us : List ℕ} → us ≡ task_put ts t.0 (restate (task_at ts t.0) (TaskState.Blocked o)) → {ts' os' : List ℕ} {q' : ReadyQueue} (c : Control)
         → switched_of (store_of ts' os' ps q' (resume_next activate (store_of us os ps q (blocked t.0 ∷ l))).store.log) c ≡ resume_next activate (store_of us os ps q (blocked t.0 ∷ l))
@@ -62,9 +63,18 @@ module _ (ts os ps : List ℕ) (q : ReadyQueue) (l : List LogEntry) (t : TaskId)
 
   module _ (f : ℕ) where
     pub coroutine-runs : (s : CoroutineState) → s ≡ CoroutineState.New → {us : List ℕ} → us ≡ object_put os o.0 (Object.Coroutine f CoroutineState.Running)
-        → awaited_of (store_of ts us ps q l) (Control.Runs t (How.Inline o)) 0 ≡ await_coroutine here t.0 o.0 f s
-    unfolding await_coroutine stays put_object
-    coroutine-runs s e u = rw (e, u)
+        → (c : Control) (n : ℕ) → awaited_of (store_of ts us ps q l) c n ≡ stays (store_of ts us ps q l) t.0 (machine.inline o.0) 0
+        → awaited_of (store_of ts us ps q l) c n ≡ await_coroutine here t.0 o.0 f s
+    unfolding await_coroutine put_object
+    coroutine-runs s e {us} u c n r = rw (e, ← u) r
+
+    -- one that is not new is not awaited
+    pub coroutine-refused : (s : CoroutineState) → (s ≡ CoroutineState.New → ⊥) → (c : Control) (n : ℕ) → awaited_of here c n ≡ stays here t.0 (raises Error.CoroutineReuse) 0
+        → awaited_of here c n ≡ await_coroutine here t.0 o.0 f s
+    unfolding await_coroutine
+    coroutine-refused CoroutineState.New h c n r = absurd (h refl)
+    coroutine-refused CoroutineState.Running h c n r = r
+    coroutine-refused CoroutineState.Completed h c n r = r
 
     coroutine-logs : (s : CoroutineState) → (await_coroutine here t.0 o.0 f s).store.log ≡ l
     unfolding await_coroutine stays put_object

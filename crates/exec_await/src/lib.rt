@@ -8,12 +8,15 @@ ghost use Rattle.exec_poll.specs.Polls.{poll_of};
 ghost use Rattle.exec_switch.specs.Control.{how_of};
 ghost use Rattle.exec_await.specs.Awaits.{AwaitsKeepingPlaces, AwaitsOfObjects, AwaitsOfNothing, Awaits};
 
-use asyncio::{Awaiter, CallId, CoroutineState, Error, ExternalFutureState, GatherState, HeapId, Object, Objects, Places, TaskId, Tasks, Value};
-use queue::ReadyQueue;
+use asyncio::{
+    Awaiter, CallId, CoroutineState, Error, ExternalFutureState, GatherState, HeapId, Object,
+    Objects, Places, TaskId, Tasks, Value,
+};
 use exec_commit::tree::commit_gather_tree;
 use exec_poll::item::{Poll, await_external};
 use exec_switch::control::{Control, How};
 use exec_switch::cycle::switch_or_yield;
+use queue::ReadyQueue;
 use scheduler_states::states::block_current_on;
 
 // Who has control after an await, and the number of commit steps.
@@ -24,6 +27,7 @@ pub struct Awaited {
 }
 
 // The task goes on at once.
+#[tactic(auto, unfolding(machine::specs::Events::stays))]
 fn stay(t: TaskId, how: How, steps: u16) -> Awaited
     ensures { AwaitsOfNothing (λ s. stays s t.0 (how_of how) steps) result }
 {

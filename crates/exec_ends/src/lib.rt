@@ -20,6 +20,7 @@ use scheduler::cleanup::{cleanup, no_call_pending};
 use scheduler_states::states::remove_task;
 
 // A coroutine that has completed. Any other object stays.
+#[tactic(auto, unfolding(machine::specs::Events::completed))]
 fn completed(x: Object) -> Object
     ensures { result ≡ completed x }
 {

@@ -73,9 +73,6 @@ module _ (items : List ℕ) (first : ℕ) (ts os : List ℕ) (q : ReadyQueue) (l
   unfolding put_items
   items-end ps i e = rw (e, drop-length items)
 
-  pub items_begin : (ps : List ℕ) → put_items (store_of ts os ps q l) (first + 0) (drop 0 items) ≡ put_items (store_of ts os ps q l) first items
-  items_begin ps = rw (add-zero first)
-
 pub gathers : (ts os ps : List ℕ) (q : ReadyQueue) (l : List LogEntry) {h : Header} → h ≡ header_at os → (items : List ℕ) {n : ℕ} → n ≡ length items → {os' ps' : List ℕ}
     → store_of ts os ps' q l ≡ put_items (store_of ts os ps q l) h.used items
     → store_of ts os' ps' q l ≡ add_object (store_of ts os ps' q l) (Object.GatherFuture h.used n GatherState.Pending) n

@@ -1,7 +1,7 @@
 -- The ways through apply_result and the loop of apply_future_results, in the shape of what the code knows there.
-use Rattle.std.specs.Prelude.{◌≡◌, List, [], ◌∷◌, ℕ, zero, suc, ◌+◌, ◌*◌, ◌/◌, ◌≤◌, eqb, length, Bool, true, false, Option, None, Some}
+use Rattle.std.specs.Prelude.{◌≡◌, List, [], ◌∷◌, ℕ, zero, suc, ◌+◌, ◌*◌, ◌/◌, ◌≤◌, eqb, length, Bool, true, false, Option, None, Some, unwrap_or}
 use Rattle.std.proofs.Math.Path.{refl}
-use Rattle.std.proofs.Common.{sym, ap, ◌∙◌, add-one, arith}
+use Rattle.std.proofs.Common.{sym, subst, ap, ◌∙◌, add-one, arith}
 use Rattle.asyncio.specs.States.{pick}
 use Rattle.asyncio.specs.Layout.{to_value, to_error}
 use Rattle.asyncio.specs.declared.Value.{Value}
@@ -20,15 +20,14 @@ use Rattle.exec_futures.specs.Results.{kind_of, result_at, results_from, results
 use Rattle.exec_futures.specs.declared.results.ResultKind.{ResultKind}
 
 -- what a result of a kind does
-applied_as : Store → Result → Option ResultKind → Store
-applied_as s r (Some ResultKind.Return) = resolve_future s r.call (to_value r.tag r.number)
-applied_as s r (Some ResultKind.Error) = fail_future s r.call (to_error 0 r.number)
-applied_as s r (Some ResultKind.StillFuture) = s
-applied_as s r (Some ResultKind.NotFound) = fail_future s r.call Error.NotFound
-applied_as s r (Some ResultKind.ModuleFile) = fail_future s r.call Error.ModuleFile
-applied_as s r None = fail_future s r.call Error.ModuleFile
+unfoldable pub applied_as : Store → Result → ResultKind → Store
+applied_as s r ResultKind.Return = resolve_future s r.call (to_value r.tag r.number)
+applied_as s r ResultKind.Error = fail_future s r.call (to_error 0 r.number)
+applied_as s r ResultKind.StillFuture = s
+applied_as s r ResultKind.NotFound = fail_future s r.call Error.NotFound
+applied_as s r ResultKind.ModuleFile = fail_future s r.call Error.ModuleFile
 
-applies : (s : Store) (r : Result) → apply_result s r ≡ applied_as s r (kind_of r.kind)
+applies : (s : Store) (r : Result) → apply_result s r ≡ applied_as s r (unwrap_or (kind_of r.kind) ResultKind.ModuleFile)
 unfolding apply_result applied_as
 applies s r = by (eqb r.kind 0) (eqb r.kind 1) (eqb r.kind 2) (eqb r.kind 3) (eqb r.kind 4)
   where
@@ -38,12 +37,13 @@ applies s r = by (eqb r.kind 0) (eqb r.kind 1) (eqb r.kind 2) (eqb r.kind 3) (eq
         (pick c s
         (pick d (fail_future s r.call Error.NotFound)
         (fail_future s r.call Error.ModuleFile))))
-        ≡ applied_as s r
+        ≡ applied_as s r (unwrap_or
         (pick a (Some ResultKind.Return)
         (pick b (Some ResultKind.Error)
         (pick c (Some ResultKind.StillFuture)
         (pick d (Some ResultKind.NotFound)
         (pick e (Some ResultKind.ModuleFile) None)))))
+        ResultKind.ModuleFile)
     by true b c d e = refl
     by false true c d e = refl
     by false false true d e = refl
@@ -51,28 +51,27 @@ applies s r = by (eqb r.kind 0) (eqb r.kind 1) (eqb r.kind 2) (eqb r.kind 3) (eq
     by false false false false true = refl
     by false false false false false = refl
 
--- so a result of a kind leaves what its kind does
-module _ (ts os ps : List ℕ) (q : ReadyQueue) (l : List LogEntry) (r : Result) {k : Option ResultKind} (e : k ≡ kind_of r.kind) where
+-- so a result leaves what its kind does
+module _ (ts os ps : List ℕ) (q : ReadyQueue) (l : List LogEntry) (r : Result) {d : Option ResultKind} (a : d ≡ kind_of r.kind) {k : ResultKind} (b : k ≡ unwrap_or d ResultKind.ModuleFile) where
   abbrev here : Store
   here = store_of ts os ps q l
 
-  does : {x : Option ResultKind} → k ≡ x → {u : Store} → applied_as here r x ≡ u → apply_result here r ≡ u
-  does f d = applies here r ∙ ap (applied_as here r) (sym e ∙ f) ∙ d
+  goes : {x : ResultKind} → k ≡ x → apply_result here r ≡ applied_as here r x
+  goes e = applies here r ∙ ap (λ (y : Option ResultKind). applied_as here r (unwrap_or y ResultKind.ModuleFile)) (sym a) ∙ ap (applied_as here r) (sym b ∙ e)
 
-  pub returns-value : k ≡ Some ResultKind.Return → {ts' os' ps' : List ℕ} {q' : ReadyQueue}
-      → store_of ts' os' ps' q' (resolve_future here r.call (to_value r.tag r.number)).log ≡ resolve_future here r.call (to_value r.tag r.number)
-      → store_of ts' os' ps' q' (apply_result here r).log ≡ apply_result here r
-  unfolding applied_as
-  returns-value f d = same_store (does f refl) d
+  pub applies_value : k ≡ ResultKind.Return → {v : Value} → v ≡ to_value r.tag r.number → {ts' os' ps' : List ℕ} {q' : ReadyQueue}
+      → store_of ts' os' ps' q' (resolve_future here r.call v).log ≡ resolve_future here r.call v → store_of ts' os' ps' q' (apply_result here r).log ≡ apply_result here r
+  applies_value e u x =
+      let g : apply_result here r ≡ resolve_future here r.call (to_value r.tag r.number) = unfold applied_as in (goes e) in
+      same_store (g ∙ ap (λ (v : Value). resolve_future here r.call v) (sym u)) x
 
-  pub still_future : k ≡ Some ResultKind.StillFuture → store_of ts os ps q (apply_result here r).log ≡ apply_result here r
-  unfolding applied_as
-  still_future f = same_store (does f refl) refl
+  pub applies_nothing : k ≡ ResultKind.StillFuture → store_of ts os ps q (apply_result here r).log ≡ apply_result here r
+  applies_nothing e = let g : apply_result here r ≡ here = unfold applied_as in (goes e) in same_store g refl
 
-  pub fails-with : (x : Error) → applied_as here r k ≡ fail_future here r.call x → {ts' os' ps' : List ℕ} {q' : ReadyQueue}
-      → store_of ts' os' ps' q' (fail_future here r.call x).log ≡ fail_future here r.call x
-      → store_of ts' os' ps' q' (apply_result here r).log ≡ apply_result here r
-  fails-with x f d = same_store (does refl f) d
+  -- a kind with an error
+  pub applies_error : (x : Error) → applied_as here r k ≡ fail_future here r.call x → {ts' os' ps' : List ℕ} {q' : ReadyQueue}
+      → store_of ts' os' ps' q' (fail_future here r.call x).log ≡ fail_future here r.call x → store_of ts' os' ps' q' (apply_result here r).log ≡ apply_result here r
+  applies_error x f d = same_store (goes refl ∙ f) d
 
 -- ---- one after the other
 
@@ -132,14 +131,16 @@ module _ (bs ts₀ os₀ ps₀ : List ℕ) (q₀ : ReadyQueue) where
   applied_begin = record { queue = q₀; long = omega arith; in_order = sym (order_none q₀ q₀.len (omega arith)); does = λ l. results_begin bs (store_of ts₀ os₀ ps₀ q₀ l) }
 
   pub applied_turn : (i : ℕ) {ts os ps : List ℕ} {left : ReadyQueue} → Applied bs ts₀ os₀ ps₀ q₀ i ts os ps left → {ts' os' ps' : List ℕ} (w : FoundTask)
-      → ((q : ReadyQueue) (l : List LogEntry) → store_of ts' os' ps' (queued q w) (apply_result (store_of ts os ps q l) (result_at bs (i * 14))).log ≡ apply_result (store_of ts os ps q l) (result_at bs (i * 14)))
+      → {x : Result} → x ≡ result_at bs (i * 14)
+      → ((q : ReadyQueue) (l : List LogEntry) → store_of ts' os' ps' (queued q w) (apply_result (store_of ts os ps q l) x).log ≡ apply_result (store_of ts os ps q l) x)
       → {left' : ReadyQueue} → left' ≡ queued_in_order left w q₀.len → Applied bs ts₀ os₀ ps₀ q₀ (i + 1) ts' os' ps' left'
-  applied_turn i k w r e =
+  applied_turn i {ts} {os} {ps} k {ts'} {os'} {ps'} w j r e =
       record {
         queue = queued k.queue w;
         long = queued_long k.queue w q₀.len k.long;
         in_order = e ∙ (ap (λ (q : ReadyQueue). queued_in_order q w q₀.len) k.in_order ∙ queued_order k.queue w q₀.len k.long);
-        does = λ l. results-turn bs (store_of ts₀ os₀ ps₀ q₀ l) i (k.does l) (r k.queue);
+        does = λ l. results-turn bs (store_of ts₀ os₀ ps₀ q₀ l) i (k.does l)
+            (λ m. subst (λ (y : Result). store_of ts' os' ps' (queued k.queue w) (apply_result (store_of ts os ps k.queue m) y).log ≡ apply_result (store_of ts os ps k.queue m) y) j (r k.queue m));
       }
 
   pub applied_end : (i : ℕ) → i ≡ length bs / 14 → {ts os ps : List ℕ} {left : ReadyQueue} → Applied bs ts₀ os₀ ps₀ q₀ i ts os ps left → (l : List LogEntry)

@@ -7,7 +7,10 @@ ghost use Rattle.machine.specs.Events.{make_coroutine, make_pending, make_settle
 ghost use Rattle.contract.specs.Contract.{ChangesObjects, ChangesPlaces};
 ghost use Rattle.exec_futures.specs.Making.{MakesObject, MakesGather, HasCall, HasPlaces, HasRoom};
 
-use asyncio::{Awaiter, CallId, CoroutineState, ExternalFutureState, GatherState, Header, HeapId, Object, Objects, Place, Places, Value};
+use asyncio::{
+    Awaiter, CallId, CoroutineState, ExternalFutureState, GatherState, Header, HeapId, Object,
+    Objects, Place, Places, Value,
+};
 
 // An object at the end, and `n` places given to it.
 fn add_object(objects: &mut Objects, x: Object, n: u16) -> HeapId

@@ -61,7 +61,7 @@ impl FutureResult {
     }
 }
 
-// One result applied: the task that it woke. A kind that there is not is one of a module file (it was refused before).
+// One result applied: the task that it woke. A byte that names no kind, which an event refuses before, is read as the last kind.
 fn apply_result(
     tasks: &mut Tasks,
     objects: &mut Objects,
@@ -71,14 +71,20 @@ fn apply_result(
     ensures { Wakes tasks objects places
         (λ s. apply_result s (result_of r)) result }
 {
-    let error = match ResultKind::from_byte(r.kind) {
-        Some(ResultKind::Return) => {
-            return resolve_future(tasks, objects, places, r.call, to_value(r.tag as u64, r.number));
+    let error = match ResultKind::from_byte(r.kind).unwrap_or(ResultKind::ModuleFile) {
+        ResultKind::Return => {
+            return resolve_future(
+                tasks,
+                objects,
+                places,
+                r.call,
+                to_value(r.tag as u64, r.number),
+            );
         }
-        Some(ResultKind::StillFuture) => return None,
-        Some(ResultKind::Error) => Error::Host(to_u32(r.number)),
-        Some(ResultKind::NotFound) => Error::NotFound,
-        _ => Error::ModuleFile,
+        ResultKind::StillFuture => return None,
+        ResultKind::Error => Error::Host(to_u32(r.number)),
+        ResultKind::NotFound => Error::NotFound,
+        ResultKind::ModuleFile => Error::ModuleFile,
     };
     fail_future(tasks, objects, r.call, error)
 }

@@ -6,11 +6,11 @@ use crate::control::Control;
 use asyncio::{CallId, Error, HeapId, Value};
 use queue::ReadyQueue;
 
-// Why an event or a read is refused, in the order of document 01's table of what a caller gets; the driver's own, 11, is not of the library.
+// Why an event or a read is refused, by the numbers of document 01's table of what a caller gets; the driver's own, 11, is not of the library.
 #[derive(Clone, Copy, PartialEq, Eq, Debug)]
 pub enum Refusal {
     // a slice of the store has the wrong length, or the list of calls has under 256 words
-    WrongLength,
+    WrongLength = 1,
     // the store is not sound
     NotSound,
     // the session has ended
@@ -36,18 +36,7 @@ impl Refusal {
     pub fn number(self) -> u16
         ensures { result ≡ refusal_number self }
     {
-        match self {
-            Refusal::WrongLength => 1,
-            Refusal::NotSound => 2,
-            Refusal::SessionEnded => 3,
-            Refusal::WrongMoment => 4,
-            Refusal::Unknown => 5,
-            Refusal::PendingAlready => 6,
-            Refusal::NoRoom => 7,
-            Refusal::NoCallNumber => 8,
-            Refusal::MainCancelled => 9,
-            Refusal::BadResult => 10,
-        }
+        self as u16
     }
 }
 

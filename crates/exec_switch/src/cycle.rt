@@ -70,7 +70,15 @@ fn start_task(
             state: CoroutineState::Running,
         },
     );
-    run(tasks, objects, t, How::Start { coroutine, function })
+    run(
+        tasks,
+        objects,
+        t,
+        How::Start {
+            coroutine,
+            function,
+        },
+    )
 }
 
 // The task's awaiter gets the error, and the task goes. Its coroutine keeps its state.
@@ -114,11 +122,7 @@ pub fn resume_after_task_exit(
 
 // The task at the queue's front, or the host.
 #[cycle(activate_task_handle_task_failure_resume_after_task_exit_start_task_switch_or_yield)]
-pub fn switch_or_yield(
-    tasks: &mut Tasks,
-    objects: &mut Objects,
-    queue: &mut ReadyQueue,
-) -> Control
+pub fn switch_or_yield(tasks: &mut Tasks, objects: &mut Objects, queue: &mut ReadyQueue) -> Control
     ensures { SwitchesKeepingPlaces tasks objects queue
         (λ s. resume_next activate s) result }
 {
