@@ -35,13 +35,13 @@ EVENTS = [
      "The running task makes a coroutine of a function. Made: its object.", STARTED + ", 7 a 257th object"),
     ("call", [], "Event::Call", "machine.Event.call",
      "The running task calls the host. Call: the call's number.", STARTED + ", 8 all numbers are handed out"),
-    ("pending", [("call", "u32")], "Event::Pending {\n        call,\n        stored: OptionValue::None,\n    }", "(machine.Event.pending call OptionValue.None)",
+    ("pending", [("call", "u32")], "Event::Pending {\n        call,\n        stored: None,\n    }", "(machine.Event.pending call None)",
      "The external future of a call, without a stored result. Made: its object.", STARTED + ", 5 the number was not handed out, 6 it is pending already, 7"),
-    ("pending_plain", [("call", "u32"), ("number", "u64")], "Event::Pending {\n        call,\n        stored: OptionValue::Some(%s),\n    }" % PLAIN,
-     "(machine.Event.pending call (OptionValue.Some %s))" % GIVES_PLAIN,
+    ("pending_plain", [("call", "u32"), ("number", "u64")], "Event::Pending {\n        call,\n        stored: Some(%s),\n    }" % PLAIN,
+     "(machine.Event.pending call (Some %s))" % GIVES_PLAIN,
      "The external future of a call, with a stored plain value, which replaces the host's. Made: its object.", STARTED + ", 5, 6, 7"),
-    ("pending_list", [("call", "u32"), ("gather", "u16")], "Event::Pending {\n        call,\n        stored: OptionValue::Some(%s),\n    }" % LIST,
-     "(machine.Event.pending call (OptionValue.Some %s))" % GIVES_LIST,
+    ("pending_list", [("call", "u32"), ("gather", "u16")], "Event::Pending {\n        call,\n        stored: Some(%s),\n    }" % LIST,
+     "(machine.Event.pending call (Some %s))" % GIVES_LIST,
      "The external future of a call, with the list of a gather stored. Made: its object.", STARTED + ", 5 also: the gather is not completed, 6, 7"),
     ("settled_plain", [("number", "u64")], "Event::Settled(%s)" % PLAIN, "(machine.Event.settled %s)" % GIVES_PLAIN,
      "An external future that has a plain value already; it is handed a call number too. Made: its object.", STARTED + ", 7, 8"),
@@ -119,10 +119,9 @@ RATTLE_HEAD = """// %s. A session's memory is lent as plain arrays, and the
 // caller owes a sound one, as memory is that began with `sozgarru_begin` and that only these functions wrote. %s
 #![tactic(auto)]
 
-ghost use Rattle.std.specs.Prelude.{◌≡◌};
+ghost use Rattle.std.specs.Prelude.{◌≡◌, None, Some};
 ghost use Rattle.asyncio.specs.Numbers.{heap_id};
 ghost use Rattle.asyncio.specs.declared.Value.{Value};
-ghost use Rattle.asyncio.specs.declared.OptionValue.{OptionValue};
 ghost use Rattle.machine.specs.Machine as machine;
 ghost use Rattle.exec_futures.specs.Results.{results_in};
 ghost use Rattle.boundary_lent.specs.Boundary.{BoundaryStep, BoundaryRead, BoundaryPlace, BoundaryBegin, SoundLent, SoundRead, is_sound_lent};
@@ -131,8 +130,10 @@ ghost use Rattle.boundary_lent.specs.Boundary.{BoundaryStep, BoundaryRead, Bound
 """
 LIBRARY_HEAD = RATTLE_HEAD % (
     "The library for other languages: one function for each event and each read, twice", MADE,
-    "use asyncio::{HeapId, OptionValue, Value};\nuse boundary_numbers::Numbers;\nuse step_event::Event;")
-EXPORTS_HEAD = RATTLE_HEAD % ("What the archive exports: the functions of `boundary` under their names in C", MADE, "use boundary_numbers::Numbers;")
+    "use asyncio::{HeapId, OBJECTS, Objects, Places, TASKS, Tasks, Value};\nuse boundary_numbers::Numbers;\nuse step_event::Event;")
+EXPORTS_HEAD = RATTLE_HEAD % ("What the archive exports: the functions of `boundary` under their names in C", MADE, "use asyncio::{OBJECTS, Objects, Places, TASKS, Tasks};\nuse boundary_numbers::Numbers;")
+# the names that asyncio has for the arrays of the memory
+ARRAYS = {"[u64; 4104]": "Tasks", "[u64; 2056]": "Objects", "[u64; 2048]": "Places", "[u64; 256]": "[u64; OBJECTS]", "[u16; 513]": "[u16; TASKS]"}
 # what each form of the memory is called in a `requires`, and in the `ensures` of a read
 OLD = "tasks.old objects.old places.old ids.old len.old"
 NOW = "tasks.now objects.now places.now ids.now len"
@@ -143,6 +144,8 @@ def rattle_function(name, params, result, comment, requires, ensures, body, expo
     lines = [f"// {c}" for c in comment] + ["#[unsafe(no_mangle)]"] * exported + [f"pub {of_c}fn sozgarru_{name}("]
     if exported:
         body = f"    boundary::sozgarru_{name}({', '.join(n for n, _ in params)})" + ("" if result else ";")
+    for array, name_of in ARRAYS.items():
+        params = [(n, t.replace(array, name_of)) for n, t in params]
     lines += [f"    {n}: {t}," for n, t in params] + [f") -> {result}" if result else ")"]
     lines += [f"    requires {{ {requires} }}"] if requires else []
     return "\n".join(lines + [f"    ensures {{ {ensures} }}", "{", body, "}", ""])
@@ -152,7 +155,7 @@ def rattle(exported=False):
     says = {}
     for name, params, code, spec, *_ in EVENTS:
         names = [n for n, _ in params]
-        rest = ", ".join(["items" if "items" in names else "&[0u16; 1]", "results" if "results" in names else "&[0u8; 1]"])
+        rest = ", ".join(["items" if "items" in names else "&[]", "results" if "results" in names else "&[]"])
         for suffix, callee, asks in (("", "dispatch", ""), ("_unchecked", "step", f"SoundLent {OLD}")):
             body = f"    boundary_lent::{callee}(tasks, objects, places, calls, ids, len, {code}, {rest})"
             says[name + suffix] = (asks, f"BoundaryStep tasks objects places calls ids len {spec} result", body)

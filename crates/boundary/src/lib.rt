@@ -3,15 +3,14 @@
 // caller owes a sound one, as memory is that began with `sozgarru_begin` and that only these functions wrote. Made by tools/boundary.py from its table: change it there.
 #![tactic(auto)]
 
-ghost use Rattle.std.specs.Prelude.{◌≡◌};
+ghost use Rattle.std.specs.Prelude.{◌≡◌, None, Some};
 ghost use Rattle.asyncio.specs.Numbers.{heap_id};
 ghost use Rattle.asyncio.specs.declared.Value.{Value};
-ghost use Rattle.std.specs.Prelude.{None, Some};
 ghost use Rattle.machine.specs.Machine as machine;
 ghost use Rattle.exec_futures.specs.Results.{results_in};
 ghost use Rattle.boundary_lent.specs.Boundary.{BoundaryStep, BoundaryRead, BoundaryPlace, BoundaryBegin, SoundLent, SoundRead, is_sound_lent};
 
-use asyncio::{HeapId, Value};
+use asyncio::{HeapId, OBJECTS, Objects, Places, TASKS, Tasks, Value};
 use boundary_numbers::Numbers;
 use step_event::Event;
 
@@ -24,10 +23,10 @@ pub fn sozgarru_version() -> u64
 
 // A fresh session, whatever the memory held: main runs, and nothing else exists.
 pub fn sozgarru_begin(
-    tasks: &mut [u64; 4104],
-    objects: &mut [u64; 2056],
-    places: &mut [u64; 2048],
-    ids: &mut [u16; 513],
+    tasks: &mut Tasks,
+    objects: &mut Objects,
+    places: &mut Places,
+    ids: &mut [u16; TASKS],
     len: &mut usize,
 )
     ensures { BoundaryBegin tasks objects places ids len }
@@ -37,10 +36,10 @@ pub fn sozgarru_begin(
 
 // Is the memory a sound store? For memory that comes from outside, as a snapshot does.
 pub fn sozgarru_is_sound(
-    tasks: &[u64; 4104],
-    objects: &[u64; 2056],
-    places: &[u64; 2048],
-    ids: &[u16; 513],
+    tasks: &Tasks,
+    objects: &Objects,
+    places: &Places,
+    ids: &[u16; TASKS],
     len: usize,
 ) -> bool
     ensures { result ≡ is_sound_lent tasks.now objects.now places.now ids.now len }
@@ -51,11 +50,11 @@ pub fn sozgarru_is_sound(
 // The running task makes a coroutine of a function. Made: its object.
 // Refused with 3 the session has ended, 4 no task runs, 7 a 257th object. Refused also with 2, where the store is not sound.
 pub fn sozgarru_coroutine(
-    tasks: &mut [u64; 4104],
-    objects: &mut [u64; 2056],
-    places: &mut [u64; 2048],
-    calls: &mut [u64; 256],
-    ids: &mut [u16; 513],
+    tasks: &mut Tasks,
+    objects: &mut Objects,
+    places: &mut Places,
+    calls: &mut [u64; OBJECTS],
+    ids: &mut [u16; TASKS],
     len: &mut usize,
     function: u32,
 ) -> Numbers
@@ -69,19 +68,19 @@ pub fn sozgarru_coroutine(
         ids,
         len,
         Event::Coroutine(function),
-        &[0u16; 1],
-        &[0u8; 1],
+        &[],
+        &[],
     )
 }
 
 // The running task calls the host. Call: the call's number.
 // Refused with 3 the session has ended, 4 no task runs, 8 all numbers are handed out. Refused also with 2, where the store is not sound.
 pub fn sozgarru_call(
-    tasks: &mut [u64; 4104],
-    objects: &mut [u64; 2056],
-    places: &mut [u64; 2048],
-    calls: &mut [u64; 256],
-    ids: &mut [u16; 513],
+    tasks: &mut Tasks,
+    objects: &mut Objects,
+    places: &mut Places,
+    calls: &mut [u64; OBJECTS],
+    ids: &mut [u16; TASKS],
     len: &mut usize,
 ) -> Numbers
     ensures { BoundaryStep tasks objects places calls ids len machine.Event.call result }
@@ -94,19 +93,19 @@ pub fn sozgarru_call(
         ids,
         len,
         Event::Call,
-        &[0u16; 1],
-        &[0u8; 1],
+        &[],
+        &[],
     )
 }
 
 // The external future of a call, without a stored result. Made: its object.
 // Refused with 3 the session has ended, 4 no task runs, 5 the number was not handed out, 6 it is pending already, 7. Refused also with 2, where the store is not sound.
 pub fn sozgarru_pending(
-    tasks: &mut [u64; 4104],
-    objects: &mut [u64; 2056],
-    places: &mut [u64; 2048],
-    calls: &mut [u64; 256],
-    ids: &mut [u16; 513],
+    tasks: &mut Tasks,
+    objects: &mut Objects,
+    places: &mut Places,
+    calls: &mut [u64; OBJECTS],
+    ids: &mut [u16; TASKS],
     len: &mut usize,
     call: u32,
 ) -> Numbers
@@ -119,23 +118,20 @@ pub fn sozgarru_pending(
         calls,
         ids,
         len,
-        Event::Pending {
-            call,
-            stored: None,
-        },
-        &[0u16; 1],
-        &[0u8; 1],
+        Event::Pending { call, stored: None },
+        &[],
+        &[],
     )
 }
 
 // The external future of a call, with a stored plain value, which replaces the host's. Made: its object.
 // Refused with 3 the session has ended, 4 no task runs, 5, 6, 7. Refused also with 2, where the store is not sound.
 pub fn sozgarru_pending_plain(
-    tasks: &mut [u64; 4104],
-    objects: &mut [u64; 2056],
-    places: &mut [u64; 2048],
-    calls: &mut [u64; 256],
-    ids: &mut [u16; 513],
+    tasks: &mut Tasks,
+    objects: &mut Objects,
+    places: &mut Places,
+    calls: &mut [u64; OBJECTS],
+    ids: &mut [u16; TASKS],
     len: &mut usize,
     call: u32,
     number: u64,
@@ -153,19 +149,19 @@ pub fn sozgarru_pending_plain(
             call,
             stored: Some(Value::Plain(number)),
         },
-        &[0u16; 1],
-        &[0u8; 1],
+        &[],
+        &[],
     )
 }
 
 // The external future of a call, with the list of a gather stored. Made: its object.
 // Refused with 3 the session has ended, 4 no task runs, 5 also: the gather is not completed, 6, 7. Refused also with 2, where the store is not sound.
 pub fn sozgarru_pending_list(
-    tasks: &mut [u64; 4104],
-    objects: &mut [u64; 2056],
-    places: &mut [u64; 2048],
-    calls: &mut [u64; 256],
-    ids: &mut [u16; 513],
+    tasks: &mut Tasks,
+    objects: &mut Objects,
+    places: &mut Places,
+    calls: &mut [u64; OBJECTS],
+    ids: &mut [u16; TASKS],
     len: &mut usize,
     call: u32,
     gather: u16,
@@ -183,19 +179,19 @@ pub fn sozgarru_pending_list(
             call,
             stored: Some(Value::List(HeapId::new(gather))),
         },
-        &[0u16; 1],
-        &[0u8; 1],
+        &[],
+        &[],
     )
 }
 
 // An external future that has a plain value already; it is handed a call number too. Made: its object.
 // Refused with 3 the session has ended, 4 no task runs, 7, 8. Refused also with 2, where the store is not sound.
 pub fn sozgarru_settled_plain(
-    tasks: &mut [u64; 4104],
-    objects: &mut [u64; 2056],
-    places: &mut [u64; 2048],
-    calls: &mut [u64; 256],
-    ids: &mut [u16; 513],
+    tasks: &mut Tasks,
+    objects: &mut Objects,
+    places: &mut Places,
+    calls: &mut [u64; OBJECTS],
+    ids: &mut [u16; TASKS],
     len: &mut usize,
     number: u64,
 ) -> Numbers
@@ -209,19 +205,19 @@ pub fn sozgarru_settled_plain(
         ids,
         len,
         Event::Settled(Value::Plain(number)),
-        &[0u16; 1],
-        &[0u8; 1],
+        &[],
+        &[],
     )
 }
 
 // An external future that has the list of a gather already. Made: its object.
 // Refused with 3 the session has ended, 4 no task runs, 5 the gather is not completed, 7, 8. Refused also with 2, where the store is not sound.
 pub fn sozgarru_settled_list(
-    tasks: &mut [u64; 4104],
-    objects: &mut [u64; 2056],
-    places: &mut [u64; 2048],
-    calls: &mut [u64; 256],
-    ids: &mut [u16; 513],
+    tasks: &mut Tasks,
+    objects: &mut Objects,
+    places: &mut Places,
+    calls: &mut [u64; OBJECTS],
+    ids: &mut [u16; TASKS],
     len: &mut usize,
     gather: u16,
 ) -> Numbers
@@ -235,19 +231,19 @@ pub fn sozgarru_settled_list(
         ids,
         len,
         Event::Settled(Value::List(HeapId::new(gather))),
-        &[0u16; 1],
-        &[0u8; 1],
+        &[],
+        &[],
     )
 }
 
 // A gather of objects, by their numbers, however many. Made: its object.
 // Refused with 3 the session has ended, 4 no task runs, 5 an object is not made, 7 (also over 32 items, over 512 places). Refused also with 2, where the store is not sound.
 pub fn sozgarru_gather(
-    tasks: &mut [u64; 4104],
-    objects: &mut [u64; 2056],
-    places: &mut [u64; 2048],
-    calls: &mut [u64; 256],
-    ids: &mut [u16; 513],
+    tasks: &mut Tasks,
+    objects: &mut Objects,
+    places: &mut Places,
+    calls: &mut [u64; OBJECTS],
+    ids: &mut [u16; TASKS],
     len: &mut usize,
     items: &[u16],
 ) -> Numbers
@@ -262,18 +258,18 @@ pub fn sozgarru_gather(
         len,
         Event::Gather,
         items,
-        &[0u8; 1],
+        &[],
     )
 }
 
 // The running task awaits an object. Runs or waits, and the commit steps.
 // Refused with 3 the session has ended, 4 no task runs, 5 the object is not made. Refused also with 2, where the store is not sound.
 pub fn sozgarru_await(
-    tasks: &mut [u64; 4104],
-    objects: &mut [u64; 2056],
-    places: &mut [u64; 2048],
-    calls: &mut [u64; 256],
-    ids: &mut [u16; 513],
+    tasks: &mut Tasks,
+    objects: &mut Objects,
+    places: &mut Places,
+    calls: &mut [u64; OBJECTS],
+    ids: &mut [u16; TASKS],
     len: &mut usize,
     object: u16,
 ) -> Numbers
@@ -287,19 +283,19 @@ pub fn sozgarru_await(
         ids,
         len,
         Event::Await(object),
-        &[0u16; 1],
-        &[0u8; 1],
+        &[],
+        &[],
     )
 }
 
 // The running task returns a plain value. Runs or waits; of main: finished.
 // Refused with 3 the session has ended, 4 no task runs. Refused also with 2, where the store is not sound.
 pub fn sozgarru_complete_plain(
-    tasks: &mut [u64; 4104],
-    objects: &mut [u64; 2056],
-    places: &mut [u64; 2048],
-    calls: &mut [u64; 256],
-    ids: &mut [u16; 513],
+    tasks: &mut Tasks,
+    objects: &mut Objects,
+    places: &mut Places,
+    calls: &mut [u64; OBJECTS],
+    ids: &mut [u16; TASKS],
     len: &mut usize,
     number: u64,
 ) -> Numbers
@@ -313,19 +309,19 @@ pub fn sozgarru_complete_plain(
         ids,
         len,
         Event::Complete(Value::Plain(number)),
-        &[0u16; 1],
-        &[0u8; 1],
+        &[],
+        &[],
     )
 }
 
 // The running task returns the list of a gather. Runs or waits; of main: finished.
 // Refused with 3 the session has ended, 4 no task runs, 5 the gather is not completed. Refused also with 2, where the store is not sound.
 pub fn sozgarru_complete_list(
-    tasks: &mut [u64; 4104],
-    objects: &mut [u64; 2056],
-    places: &mut [u64; 2048],
-    calls: &mut [u64; 256],
-    ids: &mut [u16; 513],
+    tasks: &mut Tasks,
+    objects: &mut Objects,
+    places: &mut Places,
+    calls: &mut [u64; OBJECTS],
+    ids: &mut [u16; TASKS],
     len: &mut usize,
     gather: u16,
 ) -> Numbers
@@ -339,19 +335,19 @@ pub fn sozgarru_complete_list(
         ids,
         len,
         Event::Complete(Value::List(HeapId::new(gather))),
-        &[0u16; 1],
-        &[0u8; 1],
+        &[],
+        &[],
     )
 }
 
 // The running task raises the error script n. Runs or waits; of main: finished.
 // Refused with 3 the session has ended, 4 no task runs. Refused also with 2, where the store is not sound.
 pub fn sozgarru_fail(
-    tasks: &mut [u64; 4104],
-    objects: &mut [u64; 2056],
-    places: &mut [u64; 2048],
-    calls: &mut [u64; 256],
-    ids: &mut [u16; 513],
+    tasks: &mut Tasks,
+    objects: &mut Objects,
+    places: &mut Places,
+    calls: &mut [u64; OBJECTS],
+    ids: &mut [u16; TASKS],
     len: &mut usize,
     number: u32,
 ) -> Numbers
@@ -365,19 +361,19 @@ pub fn sozgarru_fail(
         ids,
         len,
         Event::Fail(number),
-        &[0u16; 1],
-        &[0u8; 1],
+        &[],
+        &[],
     )
 }
 
 // The host answers calls: 14 bytes each (call 4, kind 1, tag 1, value 8), a rest of 1 to 13 bytes is not read. Tasks woken go to the queue's back, lowest first. Done.
 // Refused with 3 the session has ended, 5 a list of a gather not completed, 10 over 64 results or one that is none; then nothing is applied. Refused also with 2, where the store is not sound.
 pub fn sozgarru_results(
-    tasks: &mut [u64; 4104],
-    objects: &mut [u64; 2056],
-    places: &mut [u64; 2048],
-    calls: &mut [u64; 256],
-    ids: &mut [u16; 513],
+    tasks: &mut Tasks,
+    objects: &mut Objects,
+    places: &mut Places,
+    calls: &mut [u64; OBJECTS],
+    ids: &mut [u16; TASKS],
     len: &mut usize,
     results: &[u8],
 ) -> Numbers
@@ -391,7 +387,7 @@ pub fn sozgarru_results(
         ids,
         len,
         Event::Results,
-        &[0u16; 1],
+        &[],
         results,
     )
 }
@@ -399,11 +395,11 @@ pub fn sozgarru_results(
 // The host hands control back. Runs; waits, where nothing is ready; stalled, where no call is pending either.
 // Refused with 3 the session has ended, 4 a task runs. Refused also with 2, where the store is not sound.
 pub fn sozgarru_resume(
-    tasks: &mut [u64; 4104],
-    objects: &mut [u64; 2056],
-    places: &mut [u64; 2048],
-    calls: &mut [u64; 256],
-    ids: &mut [u16; 513],
+    tasks: &mut Tasks,
+    objects: &mut Objects,
+    places: &mut Places,
+    calls: &mut [u64; OBJECTS],
+    ids: &mut [u16; TASKS],
     len: &mut usize,
 ) -> Numbers
     ensures { BoundaryStep tasks objects places calls ids len machine.Event.resume result }
@@ -416,19 +412,19 @@ pub fn sozgarru_resume(
         ids,
         len,
         Event::Resume,
-        &[0u16; 1],
-        &[0u8; 1],
+        &[],
+        &[],
     )
 }
 
 // The operator cancels a task, and the tasks below the gather that it waits for. Done, with the number of removed tasks that stood in the ready queue.
 // Refused with 3 the session has ended, 4 a task runs, 5 the task is not live, 9 it is main. Refused also with 2, where the store is not sound.
 pub fn sozgarru_cancel(
-    tasks: &mut [u64; 4104],
-    objects: &mut [u64; 2056],
-    places: &mut [u64; 2048],
-    calls: &mut [u64; 256],
-    ids: &mut [u16; 513],
+    tasks: &mut Tasks,
+    objects: &mut Objects,
+    places: &mut Places,
+    calls: &mut [u64; OBJECTS],
+    ids: &mut [u16; TASKS],
     len: &mut usize,
     task: u16,
 ) -> Numbers
@@ -442,18 +438,18 @@ pub fn sozgarru_cancel(
         ids,
         len,
         Event::Cancel(task),
-        &[0u16; 1],
-        &[0u8; 1],
+        &[],
+        &[],
     )
 }
 
 // May the host answer a call at once: is no task ready and no call pending? Eager: 1 yes, 0 no.
 // Refused also with 2, where the store is not sound.
 pub fn sozgarru_eager(
-    tasks: &[u64; 4104],
-    objects: &[u64; 2056],
-    places: &[u64; 2048],
-    ids: &[u16; 513],
+    tasks: &Tasks,
+    objects: &Objects,
+    places: &Places,
+    ids: &[u16; TASKS],
     len: usize,
 ) -> Numbers
     ensures { BoundaryRead tasks.now objects.now places.now ids.now len machine.Event.eager result }
@@ -464,10 +460,10 @@ pub fn sozgarru_eager(
 // What an object is and has. Shows: sort, state, and what document 01 lists; of an awaited or completed gather how many places it has.
 // Refused with 5 the object is not made. Refused also with 2, where the store is not sound.
 pub fn sozgarru_show(
-    tasks: &[u64; 4104],
-    objects: &[u64; 2056],
-    places: &[u64; 2048],
-    ids: &[u16; 513],
+    tasks: &Tasks,
+    objects: &Objects,
+    places: &Places,
+    ids: &[u16; TASKS],
     len: usize,
     object: u16,
 ) -> Numbers
@@ -479,10 +475,10 @@ pub fn sozgarru_show(
 // A place of an awaited or completed gather, from 0. Shows: 0 where it is open; 1 and the value's tag and number.
 // Refused with 5 the object is not made, or shows no such place. Refused also with 2, where the store is not sound.
 pub fn sozgarru_place(
-    tasks: &[u64; 4104],
-    objects: &[u64; 2056],
-    places: &[u64; 2048],
-    ids: &[u16; 513],
+    tasks: &Tasks,
+    objects: &Objects,
+    places: &Places,
+    ids: &[u16; TASKS],
     len: usize,
     object: u16,
     place: u16,
@@ -495,11 +491,11 @@ pub fn sozgarru_place(
 // The running task makes a coroutine of a function. Made: its object.
 // Refused with 3 the session has ended, 4 no task runs, 7 a 257th object. The caller owes a sound store: nothing is checked.
 pub fn sozgarru_coroutine_unchecked(
-    tasks: &mut [u64; 4104],
-    objects: &mut [u64; 2056],
-    places: &mut [u64; 2048],
-    calls: &mut [u64; 256],
-    ids: &mut [u16; 513],
+    tasks: &mut Tasks,
+    objects: &mut Objects,
+    places: &mut Places,
+    calls: &mut [u64; OBJECTS],
+    ids: &mut [u16; TASKS],
     len: &mut usize,
     function: u32,
 ) -> Numbers
@@ -514,19 +510,19 @@ pub fn sozgarru_coroutine_unchecked(
         ids,
         len,
         Event::Coroutine(function),
-        &[0u16; 1],
-        &[0u8; 1],
+        &[],
+        &[],
     )
 }
 
 // The running task calls the host. Call: the call's number.
 // Refused with 3 the session has ended, 4 no task runs, 8 all numbers are handed out. The caller owes a sound store: nothing is checked.
 pub fn sozgarru_call_unchecked(
-    tasks: &mut [u64; 4104],
-    objects: &mut [u64; 2056],
-    places: &mut [u64; 2048],
-    calls: &mut [u64; 256],
-    ids: &mut [u16; 513],
+    tasks: &mut Tasks,
+    objects: &mut Objects,
+    places: &mut Places,
+    calls: &mut [u64; OBJECTS],
+    ids: &mut [u16; TASKS],
     len: &mut usize,
 ) -> Numbers
     requires { SoundLent tasks.old objects.old places.old ids.old len.old }
@@ -540,19 +536,19 @@ pub fn sozgarru_call_unchecked(
         ids,
         len,
         Event::Call,
-        &[0u16; 1],
-        &[0u8; 1],
+        &[],
+        &[],
     )
 }
 
 // The external future of a call, without a stored result. Made: its object.
 // Refused with 3 the session has ended, 4 no task runs, 5 the number was not handed out, 6 it is pending already, 7. The caller owes a sound store: nothing is checked.
 pub fn sozgarru_pending_unchecked(
-    tasks: &mut [u64; 4104],
-    objects: &mut [u64; 2056],
-    places: &mut [u64; 2048],
-    calls: &mut [u64; 256],
-    ids: &mut [u16; 513],
+    tasks: &mut Tasks,
+    objects: &mut Objects,
+    places: &mut Places,
+    calls: &mut [u64; OBJECTS],
+    ids: &mut [u16; TASKS],
     len: &mut usize,
     call: u32,
 ) -> Numbers
@@ -566,23 +562,20 @@ pub fn sozgarru_pending_unchecked(
         calls,
         ids,
         len,
-        Event::Pending {
-            call,
-            stored: None,
-        },
-        &[0u16; 1],
-        &[0u8; 1],
+        Event::Pending { call, stored: None },
+        &[],
+        &[],
     )
 }
 
 // The external future of a call, with a stored plain value, which replaces the host's. Made: its object.
 // Refused with 3 the session has ended, 4 no task runs, 5, 6, 7. The caller owes a sound store: nothing is checked.
 pub fn sozgarru_pending_plain_unchecked(
-    tasks: &mut [u64; 4104],
-    objects: &mut [u64; 2056],
-    places: &mut [u64; 2048],
-    calls: &mut [u64; 256],
-    ids: &mut [u16; 513],
+    tasks: &mut Tasks,
+    objects: &mut Objects,
+    places: &mut Places,
+    calls: &mut [u64; OBJECTS],
+    ids: &mut [u16; TASKS],
     len: &mut usize,
     call: u32,
     number: u64,
@@ -601,19 +594,19 @@ pub fn sozgarru_pending_plain_unchecked(
             call,
             stored: Some(Value::Plain(number)),
         },
-        &[0u16; 1],
-        &[0u8; 1],
+        &[],
+        &[],
     )
 }
 
 // The external future of a call, with the list of a gather stored. Made: its object.
 // Refused with 3 the session has ended, 4 no task runs, 5 also: the gather is not completed, 6, 7. The caller owes a sound store: nothing is checked.
 pub fn sozgarru_pending_list_unchecked(
-    tasks: &mut [u64; 4104],
-    objects: &mut [u64; 2056],
-    places: &mut [u64; 2048],
-    calls: &mut [u64; 256],
-    ids: &mut [u16; 513],
+    tasks: &mut Tasks,
+    objects: &mut Objects,
+    places: &mut Places,
+    calls: &mut [u64; OBJECTS],
+    ids: &mut [u16; TASKS],
     len: &mut usize,
     call: u32,
     gather: u16,
@@ -632,19 +625,19 @@ pub fn sozgarru_pending_list_unchecked(
             call,
             stored: Some(Value::List(HeapId::new(gather))),
         },
-        &[0u16; 1],
-        &[0u8; 1],
+        &[],
+        &[],
     )
 }
 
 // An external future that has a plain value already; it is handed a call number too. Made: its object.
 // Refused with 3 the session has ended, 4 no task runs, 7, 8. The caller owes a sound store: nothing is checked.
 pub fn sozgarru_settled_plain_unchecked(
-    tasks: &mut [u64; 4104],
-    objects: &mut [u64; 2056],
-    places: &mut [u64; 2048],
-    calls: &mut [u64; 256],
-    ids: &mut [u16; 513],
+    tasks: &mut Tasks,
+    objects: &mut Objects,
+    places: &mut Places,
+    calls: &mut [u64; OBJECTS],
+    ids: &mut [u16; TASKS],
     len: &mut usize,
     number: u64,
 ) -> Numbers
@@ -659,19 +652,19 @@ pub fn sozgarru_settled_plain_unchecked(
         ids,
         len,
         Event::Settled(Value::Plain(number)),
-        &[0u16; 1],
-        &[0u8; 1],
+        &[],
+        &[],
     )
 }
 
 // An external future that has the list of a gather already. Made: its object.
 // Refused with 3 the session has ended, 4 no task runs, 5 the gather is not completed, 7, 8. The caller owes a sound store: nothing is checked.
 pub fn sozgarru_settled_list_unchecked(
-    tasks: &mut [u64; 4104],
-    objects: &mut [u64; 2056],
-    places: &mut [u64; 2048],
-    calls: &mut [u64; 256],
-    ids: &mut [u16; 513],
+    tasks: &mut Tasks,
+    objects: &mut Objects,
+    places: &mut Places,
+    calls: &mut [u64; OBJECTS],
+    ids: &mut [u16; TASKS],
     len: &mut usize,
     gather: u16,
 ) -> Numbers
@@ -686,19 +679,19 @@ pub fn sozgarru_settled_list_unchecked(
         ids,
         len,
         Event::Settled(Value::List(HeapId::new(gather))),
-        &[0u16; 1],
-        &[0u8; 1],
+        &[],
+        &[],
     )
 }
 
 // A gather of objects, by their numbers, however many. Made: its object.
 // Refused with 3 the session has ended, 4 no task runs, 5 an object is not made, 7 (also over 32 items, over 512 places). The caller owes a sound store: nothing is checked.
 pub fn sozgarru_gather_unchecked(
-    tasks: &mut [u64; 4104],
-    objects: &mut [u64; 2056],
-    places: &mut [u64; 2048],
-    calls: &mut [u64; 256],
-    ids: &mut [u16; 513],
+    tasks: &mut Tasks,
+    objects: &mut Objects,
+    places: &mut Places,
+    calls: &mut [u64; OBJECTS],
+    ids: &mut [u16; TASKS],
     len: &mut usize,
     items: &[u16],
 ) -> Numbers
@@ -714,18 +707,18 @@ pub fn sozgarru_gather_unchecked(
         len,
         Event::Gather,
         items,
-        &[0u8; 1],
+        &[],
     )
 }
 
 // The running task awaits an object. Runs or waits, and the commit steps.
 // Refused with 3 the session has ended, 4 no task runs, 5 the object is not made. The caller owes a sound store: nothing is checked.
 pub fn sozgarru_await_unchecked(
-    tasks: &mut [u64; 4104],
-    objects: &mut [u64; 2056],
-    places: &mut [u64; 2048],
-    calls: &mut [u64; 256],
-    ids: &mut [u16; 513],
+    tasks: &mut Tasks,
+    objects: &mut Objects,
+    places: &mut Places,
+    calls: &mut [u64; OBJECTS],
+    ids: &mut [u16; TASKS],
     len: &mut usize,
     object: u16,
 ) -> Numbers
@@ -740,19 +733,19 @@ pub fn sozgarru_await_unchecked(
         ids,
         len,
         Event::Await(object),
-        &[0u16; 1],
-        &[0u8; 1],
+        &[],
+        &[],
     )
 }
 
 // The running task returns a plain value. Runs or waits; of main: finished.
 // Refused with 3 the session has ended, 4 no task runs. The caller owes a sound store: nothing is checked.
 pub fn sozgarru_complete_plain_unchecked(
-    tasks: &mut [u64; 4104],
-    objects: &mut [u64; 2056],
-    places: &mut [u64; 2048],
-    calls: &mut [u64; 256],
-    ids: &mut [u16; 513],
+    tasks: &mut Tasks,
+    objects: &mut Objects,
+    places: &mut Places,
+    calls: &mut [u64; OBJECTS],
+    ids: &mut [u16; TASKS],
     len: &mut usize,
     number: u64,
 ) -> Numbers
@@ -767,19 +760,19 @@ pub fn sozgarru_complete_plain_unchecked(
         ids,
         len,
         Event::Complete(Value::Plain(number)),
-        &[0u16; 1],
-        &[0u8; 1],
+        &[],
+        &[],
     )
 }
 
 // The running task returns the list of a gather. Runs or waits; of main: finished.
 // Refused with 3 the session has ended, 4 no task runs, 5 the gather is not completed. The caller owes a sound store: nothing is checked.
 pub fn sozgarru_complete_list_unchecked(
-    tasks: &mut [u64; 4104],
-    objects: &mut [u64; 2056],
-    places: &mut [u64; 2048],
-    calls: &mut [u64; 256],
-    ids: &mut [u16; 513],
+    tasks: &mut Tasks,
+    objects: &mut Objects,
+    places: &mut Places,
+    calls: &mut [u64; OBJECTS],
+    ids: &mut [u16; TASKS],
     len: &mut usize,
     gather: u16,
 ) -> Numbers
@@ -794,19 +787,19 @@ pub fn sozgarru_complete_list_unchecked(
         ids,
         len,
         Event::Complete(Value::List(HeapId::new(gather))),
-        &[0u16; 1],
-        &[0u8; 1],
+        &[],
+        &[],
     )
 }
 
 // The running task raises the error script n. Runs or waits; of main: finished.
 // Refused with 3 the session has ended, 4 no task runs. The caller owes a sound store: nothing is checked.
 pub fn sozgarru_fail_unchecked(
-    tasks: &mut [u64; 4104],
-    objects: &mut [u64; 2056],
-    places: &mut [u64; 2048],
-    calls: &mut [u64; 256],
-    ids: &mut [u16; 513],
+    tasks: &mut Tasks,
+    objects: &mut Objects,
+    places: &mut Places,
+    calls: &mut [u64; OBJECTS],
+    ids: &mut [u16; TASKS],
     len: &mut usize,
     number: u32,
 ) -> Numbers
@@ -821,19 +814,19 @@ pub fn sozgarru_fail_unchecked(
         ids,
         len,
         Event::Fail(number),
-        &[0u16; 1],
-        &[0u8; 1],
+        &[],
+        &[],
     )
 }
 
 // The host answers calls: 14 bytes each (call 4, kind 1, tag 1, value 8), a rest of 1 to 13 bytes is not read. Tasks woken go to the queue's back, lowest first. Done.
 // Refused with 3 the session has ended, 5 a list of a gather not completed, 10 over 64 results or one that is none; then nothing is applied. The caller owes a sound store: nothing is checked.
 pub fn sozgarru_results_unchecked(
-    tasks: &mut [u64; 4104],
-    objects: &mut [u64; 2056],
-    places: &mut [u64; 2048],
-    calls: &mut [u64; 256],
-    ids: &mut [u16; 513],
+    tasks: &mut Tasks,
+    objects: &mut Objects,
+    places: &mut Places,
+    calls: &mut [u64; OBJECTS],
+    ids: &mut [u16; TASKS],
     len: &mut usize,
     results: &[u8],
 ) -> Numbers
@@ -848,7 +841,7 @@ pub fn sozgarru_results_unchecked(
         ids,
         len,
         Event::Results,
-        &[0u16; 1],
+        &[],
         results,
     )
 }
@@ -856,11 +849,11 @@ pub fn sozgarru_results_unchecked(
 // The host hands control back. Runs; waits, where nothing is ready; stalled, where no call is pending either.
 // Refused with 3 the session has ended, 4 a task runs. The caller owes a sound store: nothing is checked.
 pub fn sozgarru_resume_unchecked(
-    tasks: &mut [u64; 4104],
-    objects: &mut [u64; 2056],
-    places: &mut [u64; 2048],
-    calls: &mut [u64; 256],
-    ids: &mut [u16; 513],
+    tasks: &mut Tasks,
+    objects: &mut Objects,
+    places: &mut Places,
+    calls: &mut [u64; OBJECTS],
+    ids: &mut [u16; TASKS],
     len: &mut usize,
 ) -> Numbers
     requires { SoundLent tasks.old objects.old places.old ids.old len.old }
@@ -874,19 +867,19 @@ pub fn sozgarru_resume_unchecked(
         ids,
         len,
         Event::Resume,
-        &[0u16; 1],
-        &[0u8; 1],
+        &[],
+        &[],
     )
 }
 
 // The operator cancels a task, and the tasks below the gather that it waits for. Done, with the number of removed tasks that stood in the ready queue.
 // Refused with 3 the session has ended, 4 a task runs, 5 the task is not live, 9 it is main. The caller owes a sound store: nothing is checked.
 pub fn sozgarru_cancel_unchecked(
-    tasks: &mut [u64; 4104],
-    objects: &mut [u64; 2056],
-    places: &mut [u64; 2048],
-    calls: &mut [u64; 256],
-    ids: &mut [u16; 513],
+    tasks: &mut Tasks,
+    objects: &mut Objects,
+    places: &mut Places,
+    calls: &mut [u64; OBJECTS],
+    ids: &mut [u16; TASKS],
     len: &mut usize,
     task: u16,
 ) -> Numbers
@@ -901,18 +894,18 @@ pub fn sozgarru_cancel_unchecked(
         ids,
         len,
         Event::Cancel(task),
-        &[0u16; 1],
-        &[0u8; 1],
+        &[],
+        &[],
     )
 }
 
 // May the host answer a call at once: is no task ready and no call pending? Eager: 1 yes, 0 no.
 // The caller owes a sound store: nothing is checked.
 pub fn sozgarru_eager_unchecked(
-    tasks: &[u64; 4104],
-    objects: &[u64; 2056],
-    places: &[u64; 2048],
-    ids: &[u16; 513],
+    tasks: &Tasks,
+    objects: &Objects,
+    places: &Places,
+    ids: &[u16; TASKS],
     len: usize,
 ) -> Numbers
     requires { SoundRead tasks.now objects.now places.now ids.now len }
@@ -924,10 +917,10 @@ pub fn sozgarru_eager_unchecked(
 // What an object is and has. Shows: sort, state, and what document 01 lists; of an awaited or completed gather how many places it has.
 // Refused with 5 the object is not made. The caller owes a sound store: nothing is checked.
 pub fn sozgarru_show_unchecked(
-    tasks: &[u64; 4104],
-    objects: &[u64; 2056],
-    places: &[u64; 2048],
-    ids: &[u16; 513],
+    tasks: &Tasks,
+    objects: &Objects,
+    places: &Places,
+    ids: &[u16; TASKS],
     len: usize,
     object: u16,
 ) -> Numbers
@@ -940,10 +933,10 @@ pub fn sozgarru_show_unchecked(
 // A place of an awaited or completed gather, from 0. Shows: 0 where it is open; 1 and the value's tag and number.
 // Refused with 5 the object is not made, or shows no such place. The caller owes a sound store: nothing is checked.
 pub fn sozgarru_place_unchecked(
-    tasks: &[u64; 4104],
-    objects: &[u64; 2056],
-    places: &[u64; 2048],
-    ids: &[u16; 513],
+    tasks: &Tasks,
+    objects: &Objects,
+    places: &Places,
+    ids: &[u16; TASKS],
     len: usize,
     object: u16,
     place: u16,

@@ -3,14 +3,14 @@
 // caller owes a sound one, as memory is that began with `sozgarru_begin` and that only these functions wrote. Made by tools/boundary.py from its table: change it there.
 #![tactic(auto)]
 
-ghost use Rattle.std.specs.Prelude.{◌≡◌};
+ghost use Rattle.std.specs.Prelude.{◌≡◌, None, Some};
 ghost use Rattle.asyncio.specs.Numbers.{heap_id};
 ghost use Rattle.asyncio.specs.declared.Value.{Value};
-ghost use Rattle.std.specs.Prelude.{None, Some};
 ghost use Rattle.machine.specs.Machine as machine;
 ghost use Rattle.exec_futures.specs.Results.{results_in};
 ghost use Rattle.boundary_lent.specs.Boundary.{BoundaryStep, BoundaryRead, BoundaryPlace, BoundaryBegin, SoundLent, SoundRead, is_sound_lent};
 
+use asyncio::{OBJECTS, Objects, Places, TASKS, Tasks};
 use boundary_numbers::Numbers;
 
 // The version of this boundary and of the layout: a host compares it with the one that it was built for.
@@ -24,10 +24,10 @@ pub extern "C" fn sozgarru_version() -> u64
 // A fresh session, whatever the memory held: main runs, and nothing else exists.
 #[unsafe(no_mangle)]
 pub extern "C" fn sozgarru_begin(
-    tasks: &mut [u64; 4104],
-    objects: &mut [u64; 2056],
-    places: &mut [u64; 2048],
-    ids: &mut [u16; 513],
+    tasks: &mut Tasks,
+    objects: &mut Objects,
+    places: &mut Places,
+    ids: &mut [u16; TASKS],
     len: &mut usize,
 )
     ensures { BoundaryBegin tasks objects places ids len }
@@ -38,10 +38,10 @@ pub extern "C" fn sozgarru_begin(
 // Is the memory a sound store? For memory that comes from outside, as a snapshot does.
 #[unsafe(no_mangle)]
 pub extern "C" fn sozgarru_is_sound(
-    tasks: &[u64; 4104],
-    objects: &[u64; 2056],
-    places: &[u64; 2048],
-    ids: &[u16; 513],
+    tasks: &Tasks,
+    objects: &Objects,
+    places: &Places,
+    ids: &[u16; TASKS],
     len: usize,
 ) -> bool
     ensures { result ≡ is_sound_lent tasks.now objects.now places.now ids.now len }
@@ -53,11 +53,11 @@ pub extern "C" fn sozgarru_is_sound(
 // Refused with 3 the session has ended, 4 no task runs, 7 a 257th object. Refused also with 2, where the store is not sound.
 #[unsafe(no_mangle)]
 pub extern "C" fn sozgarru_coroutine(
-    tasks: &mut [u64; 4104],
-    objects: &mut [u64; 2056],
-    places: &mut [u64; 2048],
-    calls: &mut [u64; 256],
-    ids: &mut [u16; 513],
+    tasks: &mut Tasks,
+    objects: &mut Objects,
+    places: &mut Places,
+    calls: &mut [u64; OBJECTS],
+    ids: &mut [u16; TASKS],
     len: &mut usize,
     function: u32,
 ) -> Numbers
@@ -70,11 +70,11 @@ pub extern "C" fn sozgarru_coroutine(
 // Refused with 3 the session has ended, 4 no task runs, 8 all numbers are handed out. Refused also with 2, where the store is not sound.
 #[unsafe(no_mangle)]
 pub extern "C" fn sozgarru_call(
-    tasks: &mut [u64; 4104],
-    objects: &mut [u64; 2056],
-    places: &mut [u64; 2048],
-    calls: &mut [u64; 256],
-    ids: &mut [u16; 513],
+    tasks: &mut Tasks,
+    objects: &mut Objects,
+    places: &mut Places,
+    calls: &mut [u64; OBJECTS],
+    ids: &mut [u16; TASKS],
     len: &mut usize,
 ) -> Numbers
     ensures { BoundaryStep tasks objects places calls ids len machine.Event.call result }
@@ -86,11 +86,11 @@ pub extern "C" fn sozgarru_call(
 // Refused with 3 the session has ended, 4 no task runs, 5 the number was not handed out, 6 it is pending already, 7. Refused also with 2, where the store is not sound.
 #[unsafe(no_mangle)]
 pub extern "C" fn sozgarru_pending(
-    tasks: &mut [u64; 4104],
-    objects: &mut [u64; 2056],
-    places: &mut [u64; 2048],
-    calls: &mut [u64; 256],
-    ids: &mut [u16; 513],
+    tasks: &mut Tasks,
+    objects: &mut Objects,
+    places: &mut Places,
+    calls: &mut [u64; OBJECTS],
+    ids: &mut [u16; TASKS],
     len: &mut usize,
     call: u32,
 ) -> Numbers
@@ -103,11 +103,11 @@ pub extern "C" fn sozgarru_pending(
 // Refused with 3 the session has ended, 4 no task runs, 5, 6, 7. Refused also with 2, where the store is not sound.
 #[unsafe(no_mangle)]
 pub extern "C" fn sozgarru_pending_plain(
-    tasks: &mut [u64; 4104],
-    objects: &mut [u64; 2056],
-    places: &mut [u64; 2048],
-    calls: &mut [u64; 256],
-    ids: &mut [u16; 513],
+    tasks: &mut Tasks,
+    objects: &mut Objects,
+    places: &mut Places,
+    calls: &mut [u64; OBJECTS],
+    ids: &mut [u16; TASKS],
     len: &mut usize,
     call: u32,
     number: u64,
@@ -121,11 +121,11 @@ pub extern "C" fn sozgarru_pending_plain(
 // Refused with 3 the session has ended, 4 no task runs, 5 also: the gather is not completed, 6, 7. Refused also with 2, where the store is not sound.
 #[unsafe(no_mangle)]
 pub extern "C" fn sozgarru_pending_list(
-    tasks: &mut [u64; 4104],
-    objects: &mut [u64; 2056],
-    places: &mut [u64; 2048],
-    calls: &mut [u64; 256],
-    ids: &mut [u16; 513],
+    tasks: &mut Tasks,
+    objects: &mut Objects,
+    places: &mut Places,
+    calls: &mut [u64; OBJECTS],
+    ids: &mut [u16; TASKS],
     len: &mut usize,
     call: u32,
     gather: u16,
@@ -139,11 +139,11 @@ pub extern "C" fn sozgarru_pending_list(
 // Refused with 3 the session has ended, 4 no task runs, 7, 8. Refused also with 2, where the store is not sound.
 #[unsafe(no_mangle)]
 pub extern "C" fn sozgarru_settled_plain(
-    tasks: &mut [u64; 4104],
-    objects: &mut [u64; 2056],
-    places: &mut [u64; 2048],
-    calls: &mut [u64; 256],
-    ids: &mut [u16; 513],
+    tasks: &mut Tasks,
+    objects: &mut Objects,
+    places: &mut Places,
+    calls: &mut [u64; OBJECTS],
+    ids: &mut [u16; TASKS],
     len: &mut usize,
     number: u64,
 ) -> Numbers
@@ -156,11 +156,11 @@ pub extern "C" fn sozgarru_settled_plain(
 // Refused with 3 the session has ended, 4 no task runs, 5 the gather is not completed, 7, 8. Refused also with 2, where the store is not sound.
 #[unsafe(no_mangle)]
 pub extern "C" fn sozgarru_settled_list(
-    tasks: &mut [u64; 4104],
-    objects: &mut [u64; 2056],
-    places: &mut [u64; 2048],
-    calls: &mut [u64; 256],
-    ids: &mut [u16; 513],
+    tasks: &mut Tasks,
+    objects: &mut Objects,
+    places: &mut Places,
+    calls: &mut [u64; OBJECTS],
+    ids: &mut [u16; TASKS],
     len: &mut usize,
     gather: u16,
 ) -> Numbers
@@ -173,11 +173,11 @@ pub extern "C" fn sozgarru_settled_list(
 // Refused with 3 the session has ended, 4 no task runs, 5 an object is not made, 7 (also over 32 items, over 512 places). Refused also with 2, where the store is not sound.
 #[unsafe(no_mangle)]
 pub extern "C" fn sozgarru_gather(
-    tasks: &mut [u64; 4104],
-    objects: &mut [u64; 2056],
-    places: &mut [u64; 2048],
-    calls: &mut [u64; 256],
-    ids: &mut [u16; 513],
+    tasks: &mut Tasks,
+    objects: &mut Objects,
+    places: &mut Places,
+    calls: &mut [u64; OBJECTS],
+    ids: &mut [u16; TASKS],
     len: &mut usize,
     items: &[u16],
 ) -> Numbers
@@ -190,11 +190,11 @@ pub extern "C" fn sozgarru_gather(
 // Refused with 3 the session has ended, 4 no task runs, 5 the object is not made. Refused also with 2, where the store is not sound.
 #[unsafe(no_mangle)]
 pub extern "C" fn sozgarru_await(
-    tasks: &mut [u64; 4104],
-    objects: &mut [u64; 2056],
-    places: &mut [u64; 2048],
-    calls: &mut [u64; 256],
-    ids: &mut [u16; 513],
+    tasks: &mut Tasks,
+    objects: &mut Objects,
+    places: &mut Places,
+    calls: &mut [u64; OBJECTS],
+    ids: &mut [u16; TASKS],
     len: &mut usize,
     object: u16,
 ) -> Numbers
@@ -207,11 +207,11 @@ pub extern "C" fn sozgarru_await(
 // Refused with 3 the session has ended, 4 no task runs. Refused also with 2, where the store is not sound.
 #[unsafe(no_mangle)]
 pub extern "C" fn sozgarru_complete_plain(
-    tasks: &mut [u64; 4104],
-    objects: &mut [u64; 2056],
-    places: &mut [u64; 2048],
-    calls: &mut [u64; 256],
-    ids: &mut [u16; 513],
+    tasks: &mut Tasks,
+    objects: &mut Objects,
+    places: &mut Places,
+    calls: &mut [u64; OBJECTS],
+    ids: &mut [u16; TASKS],
     len: &mut usize,
     number: u64,
 ) -> Numbers
@@ -224,11 +224,11 @@ pub extern "C" fn sozgarru_complete_plain(
 // Refused with 3 the session has ended, 4 no task runs, 5 the gather is not completed. Refused also with 2, where the store is not sound.
 #[unsafe(no_mangle)]
 pub extern "C" fn sozgarru_complete_list(
-    tasks: &mut [u64; 4104],
-    objects: &mut [u64; 2056],
-    places: &mut [u64; 2048],
-    calls: &mut [u64; 256],
-    ids: &mut [u16; 513],
+    tasks: &mut Tasks,
+    objects: &mut Objects,
+    places: &mut Places,
+    calls: &mut [u64; OBJECTS],
+    ids: &mut [u16; TASKS],
     len: &mut usize,
     gather: u16,
 ) -> Numbers
@@ -241,11 +241,11 @@ pub extern "C" fn sozgarru_complete_list(
 // Refused with 3 the session has ended, 4 no task runs. Refused also with 2, where the store is not sound.
 #[unsafe(no_mangle)]
 pub extern "C" fn sozgarru_fail(
-    tasks: &mut [u64; 4104],
-    objects: &mut [u64; 2056],
-    places: &mut [u64; 2048],
-    calls: &mut [u64; 256],
-    ids: &mut [u16; 513],
+    tasks: &mut Tasks,
+    objects: &mut Objects,
+    places: &mut Places,
+    calls: &mut [u64; OBJECTS],
+    ids: &mut [u16; TASKS],
     len: &mut usize,
     number: u32,
 ) -> Numbers
@@ -258,11 +258,11 @@ pub extern "C" fn sozgarru_fail(
 // Refused with 3 the session has ended, 5 a list of a gather not completed, 10 over 64 results or one that is none; then nothing is applied. Refused also with 2, where the store is not sound.
 #[unsafe(no_mangle)]
 pub extern "C" fn sozgarru_results(
-    tasks: &mut [u64; 4104],
-    objects: &mut [u64; 2056],
-    places: &mut [u64; 2048],
-    calls: &mut [u64; 256],
-    ids: &mut [u16; 513],
+    tasks: &mut Tasks,
+    objects: &mut Objects,
+    places: &mut Places,
+    calls: &mut [u64; OBJECTS],
+    ids: &mut [u16; TASKS],
     len: &mut usize,
     results: &[u8],
 ) -> Numbers
@@ -275,11 +275,11 @@ pub extern "C" fn sozgarru_results(
 // Refused with 3 the session has ended, 4 a task runs. Refused also with 2, where the store is not sound.
 #[unsafe(no_mangle)]
 pub extern "C" fn sozgarru_resume(
-    tasks: &mut [u64; 4104],
-    objects: &mut [u64; 2056],
-    places: &mut [u64; 2048],
-    calls: &mut [u64; 256],
-    ids: &mut [u16; 513],
+    tasks: &mut Tasks,
+    objects: &mut Objects,
+    places: &mut Places,
+    calls: &mut [u64; OBJECTS],
+    ids: &mut [u16; TASKS],
     len: &mut usize,
 ) -> Numbers
     ensures { BoundaryStep tasks objects places calls ids len machine.Event.resume result }
@@ -291,11 +291,11 @@ pub extern "C" fn sozgarru_resume(
 // Refused with 3 the session has ended, 4 a task runs, 5 the task is not live, 9 it is main. Refused also with 2, where the store is not sound.
 #[unsafe(no_mangle)]
 pub extern "C" fn sozgarru_cancel(
-    tasks: &mut [u64; 4104],
-    objects: &mut [u64; 2056],
-    places: &mut [u64; 2048],
-    calls: &mut [u64; 256],
-    ids: &mut [u16; 513],
+    tasks: &mut Tasks,
+    objects: &mut Objects,
+    places: &mut Places,
+    calls: &mut [u64; OBJECTS],
+    ids: &mut [u16; TASKS],
     len: &mut usize,
     task: u16,
 ) -> Numbers
@@ -308,10 +308,10 @@ pub extern "C" fn sozgarru_cancel(
 // Refused also with 2, where the store is not sound.
 #[unsafe(no_mangle)]
 pub extern "C" fn sozgarru_eager(
-    tasks: &[u64; 4104],
-    objects: &[u64; 2056],
-    places: &[u64; 2048],
-    ids: &[u16; 513],
+    tasks: &Tasks,
+    objects: &Objects,
+    places: &Places,
+    ids: &[u16; TASKS],
     len: usize,
 ) -> Numbers
     ensures { BoundaryRead tasks.now objects.now places.now ids.now len machine.Event.eager result }
@@ -323,10 +323,10 @@ pub extern "C" fn sozgarru_eager(
 // Refused with 5 the object is not made. Refused also with 2, where the store is not sound.
 #[unsafe(no_mangle)]
 pub extern "C" fn sozgarru_show(
-    tasks: &[u64; 4104],
-    objects: &[u64; 2056],
-    places: &[u64; 2048],
-    ids: &[u16; 513],
+    tasks: &Tasks,
+    objects: &Objects,
+    places: &Places,
+    ids: &[u16; TASKS],
     len: usize,
     object: u16,
 ) -> Numbers
@@ -339,10 +339,10 @@ pub extern "C" fn sozgarru_show(
 // Refused with 5 the object is not made, or shows no such place. Refused also with 2, where the store is not sound.
 #[unsafe(no_mangle)]
 pub extern "C" fn sozgarru_place(
-    tasks: &[u64; 4104],
-    objects: &[u64; 2056],
-    places: &[u64; 2048],
-    ids: &[u16; 513],
+    tasks: &Tasks,
+    objects: &Objects,
+    places: &Places,
+    ids: &[u16; TASKS],
     len: usize,
     object: u16,
     place: u16,
@@ -356,11 +356,11 @@ pub extern "C" fn sozgarru_place(
 // Refused with 3 the session has ended, 4 no task runs, 7 a 257th object. The caller owes a sound store: nothing is checked.
 #[unsafe(no_mangle)]
 pub extern "C" fn sozgarru_coroutine_unchecked(
-    tasks: &mut [u64; 4104],
-    objects: &mut [u64; 2056],
-    places: &mut [u64; 2048],
-    calls: &mut [u64; 256],
-    ids: &mut [u16; 513],
+    tasks: &mut Tasks,
+    objects: &mut Objects,
+    places: &mut Places,
+    calls: &mut [u64; OBJECTS],
+    ids: &mut [u16; TASKS],
     len: &mut usize,
     function: u32,
 ) -> Numbers
@@ -374,11 +374,11 @@ pub extern "C" fn sozgarru_coroutine_unchecked(
 // Refused with 3 the session has ended, 4 no task runs, 8 all numbers are handed out. The caller owes a sound store: nothing is checked.
 #[unsafe(no_mangle)]
 pub extern "C" fn sozgarru_call_unchecked(
-    tasks: &mut [u64; 4104],
-    objects: &mut [u64; 2056],
-    places: &mut [u64; 2048],
-    calls: &mut [u64; 256],
-    ids: &mut [u16; 513],
+    tasks: &mut Tasks,
+    objects: &mut Objects,
+    places: &mut Places,
+    calls: &mut [u64; OBJECTS],
+    ids: &mut [u16; TASKS],
     len: &mut usize,
 ) -> Numbers
     requires { SoundLent tasks.old objects.old places.old ids.old len.old }
@@ -391,11 +391,11 @@ pub extern "C" fn sozgarru_call_unchecked(
 // Refused with 3 the session has ended, 4 no task runs, 5 the number was not handed out, 6 it is pending already, 7. The caller owes a sound store: nothing is checked.
 #[unsafe(no_mangle)]
 pub extern "C" fn sozgarru_pending_unchecked(
-    tasks: &mut [u64; 4104],
-    objects: &mut [u64; 2056],
-    places: &mut [u64; 2048],
-    calls: &mut [u64; 256],
-    ids: &mut [u16; 513],
+    tasks: &mut Tasks,
+    objects: &mut Objects,
+    places: &mut Places,
+    calls: &mut [u64; OBJECTS],
+    ids: &mut [u16; TASKS],
     len: &mut usize,
     call: u32,
 ) -> Numbers
@@ -409,11 +409,11 @@ pub extern "C" fn sozgarru_pending_unchecked(
 // Refused with 3 the session has ended, 4 no task runs, 5, 6, 7. The caller owes a sound store: nothing is checked.
 #[unsafe(no_mangle)]
 pub extern "C" fn sozgarru_pending_plain_unchecked(
-    tasks: &mut [u64; 4104],
-    objects: &mut [u64; 2056],
-    places: &mut [u64; 2048],
-    calls: &mut [u64; 256],
-    ids: &mut [u16; 513],
+    tasks: &mut Tasks,
+    objects: &mut Objects,
+    places: &mut Places,
+    calls: &mut [u64; OBJECTS],
+    ids: &mut [u16; TASKS],
     len: &mut usize,
     call: u32,
     number: u64,
@@ -430,11 +430,11 @@ pub extern "C" fn sozgarru_pending_plain_unchecked(
 // Refused with 3 the session has ended, 4 no task runs, 5 also: the gather is not completed, 6, 7. The caller owes a sound store: nothing is checked.
 #[unsafe(no_mangle)]
 pub extern "C" fn sozgarru_pending_list_unchecked(
-    tasks: &mut [u64; 4104],
-    objects: &mut [u64; 2056],
-    places: &mut [u64; 2048],
-    calls: &mut [u64; 256],
-    ids: &mut [u16; 513],
+    tasks: &mut Tasks,
+    objects: &mut Objects,
+    places: &mut Places,
+    calls: &mut [u64; OBJECTS],
+    ids: &mut [u16; TASKS],
     len: &mut usize,
     call: u32,
     gather: u16,
@@ -449,11 +449,11 @@ pub extern "C" fn sozgarru_pending_list_unchecked(
 // Refused with 3 the session has ended, 4 no task runs, 7, 8. The caller owes a sound store: nothing is checked.
 #[unsafe(no_mangle)]
 pub extern "C" fn sozgarru_settled_plain_unchecked(
-    tasks: &mut [u64; 4104],
-    objects: &mut [u64; 2056],
-    places: &mut [u64; 2048],
-    calls: &mut [u64; 256],
-    ids: &mut [u16; 513],
+    tasks: &mut Tasks,
+    objects: &mut Objects,
+    places: &mut Places,
+    calls: &mut [u64; OBJECTS],
+    ids: &mut [u16; TASKS],
     len: &mut usize,
     number: u64,
 ) -> Numbers
@@ -467,11 +467,11 @@ pub extern "C" fn sozgarru_settled_plain_unchecked(
 // Refused with 3 the session has ended, 4 no task runs, 5 the gather is not completed, 7, 8. The caller owes a sound store: nothing is checked.
 #[unsafe(no_mangle)]
 pub extern "C" fn sozgarru_settled_list_unchecked(
-    tasks: &mut [u64; 4104],
-    objects: &mut [u64; 2056],
-    places: &mut [u64; 2048],
-    calls: &mut [u64; 256],
-    ids: &mut [u16; 513],
+    tasks: &mut Tasks,
+    objects: &mut Objects,
+    places: &mut Places,
+    calls: &mut [u64; OBJECTS],
+    ids: &mut [u16; TASKS],
     len: &mut usize,
     gather: u16,
 ) -> Numbers
@@ -485,11 +485,11 @@ pub extern "C" fn sozgarru_settled_list_unchecked(
 // Refused with 3 the session has ended, 4 no task runs, 5 an object is not made, 7 (also over 32 items, over 512 places). The caller owes a sound store: nothing is checked.
 #[unsafe(no_mangle)]
 pub extern "C" fn sozgarru_gather_unchecked(
-    tasks: &mut [u64; 4104],
-    objects: &mut [u64; 2056],
-    places: &mut [u64; 2048],
-    calls: &mut [u64; 256],
-    ids: &mut [u16; 513],
+    tasks: &mut Tasks,
+    objects: &mut Objects,
+    places: &mut Places,
+    calls: &mut [u64; OBJECTS],
+    ids: &mut [u16; TASKS],
     len: &mut usize,
     items: &[u16],
 ) -> Numbers
@@ -503,11 +503,11 @@ pub extern "C" fn sozgarru_gather_unchecked(
 // Refused with 3 the session has ended, 4 no task runs, 5 the object is not made. The caller owes a sound store: nothing is checked.
 #[unsafe(no_mangle)]
 pub extern "C" fn sozgarru_await_unchecked(
-    tasks: &mut [u64; 4104],
-    objects: &mut [u64; 2056],
-    places: &mut [u64; 2048],
-    calls: &mut [u64; 256],
-    ids: &mut [u16; 513],
+    tasks: &mut Tasks,
+    objects: &mut Objects,
+    places: &mut Places,
+    calls: &mut [u64; OBJECTS],
+    ids: &mut [u16; TASKS],
     len: &mut usize,
     object: u16,
 ) -> Numbers
@@ -521,11 +521,11 @@ pub extern "C" fn sozgarru_await_unchecked(
 // Refused with 3 the session has ended, 4 no task runs. The caller owes a sound store: nothing is checked.
 #[unsafe(no_mangle)]
 pub extern "C" fn sozgarru_complete_plain_unchecked(
-    tasks: &mut [u64; 4104],
-    objects: &mut [u64; 2056],
-    places: &mut [u64; 2048],
-    calls: &mut [u64; 256],
-    ids: &mut [u16; 513],
+    tasks: &mut Tasks,
+    objects: &mut Objects,
+    places: &mut Places,
+    calls: &mut [u64; OBJECTS],
+    ids: &mut [u16; TASKS],
     len: &mut usize,
     number: u64,
 ) -> Numbers
@@ -539,11 +539,11 @@ pub extern "C" fn sozgarru_complete_plain_unchecked(
 // Refused with 3 the session has ended, 4 no task runs, 5 the gather is not completed. The caller owes a sound store: nothing is checked.
 #[unsafe(no_mangle)]
 pub extern "C" fn sozgarru_complete_list_unchecked(
-    tasks: &mut [u64; 4104],
-    objects: &mut [u64; 2056],
-    places: &mut [u64; 2048],
-    calls: &mut [u64; 256],
-    ids: &mut [u16; 513],
+    tasks: &mut Tasks,
+    objects: &mut Objects,
+    places: &mut Places,
+    calls: &mut [u64; OBJECTS],
+    ids: &mut [u16; TASKS],
     len: &mut usize,
     gather: u16,
 ) -> Numbers
@@ -557,11 +557,11 @@ pub extern "C" fn sozgarru_complete_list_unchecked(
 // Refused with 3 the session has ended, 4 no task runs. The caller owes a sound store: nothing is checked.
 #[unsafe(no_mangle)]
 pub extern "C" fn sozgarru_fail_unchecked(
-    tasks: &mut [u64; 4104],
-    objects: &mut [u64; 2056],
-    places: &mut [u64; 2048],
-    calls: &mut [u64; 256],
-    ids: &mut [u16; 513],
+    tasks: &mut Tasks,
+    objects: &mut Objects,
+    places: &mut Places,
+    calls: &mut [u64; OBJECTS],
+    ids: &mut [u16; TASKS],
     len: &mut usize,
     number: u32,
 ) -> Numbers
@@ -575,11 +575,11 @@ pub extern "C" fn sozgarru_fail_unchecked(
 // Refused with 3 the session has ended, 5 a list of a gather not completed, 10 over 64 results or one that is none; then nothing is applied. The caller owes a sound store: nothing is checked.
 #[unsafe(no_mangle)]
 pub extern "C" fn sozgarru_results_unchecked(
-    tasks: &mut [u64; 4104],
-    objects: &mut [u64; 2056],
-    places: &mut [u64; 2048],
-    calls: &mut [u64; 256],
-    ids: &mut [u16; 513],
+    tasks: &mut Tasks,
+    objects: &mut Objects,
+    places: &mut Places,
+    calls: &mut [u64; OBJECTS],
+    ids: &mut [u16; TASKS],
     len: &mut usize,
     results: &[u8],
 ) -> Numbers
@@ -593,11 +593,11 @@ pub extern "C" fn sozgarru_results_unchecked(
 // Refused with 3 the session has ended, 4 a task runs. The caller owes a sound store: nothing is checked.
 #[unsafe(no_mangle)]
 pub extern "C" fn sozgarru_resume_unchecked(
-    tasks: &mut [u64; 4104],
-    objects: &mut [u64; 2056],
-    places: &mut [u64; 2048],
-    calls: &mut [u64; 256],
-    ids: &mut [u16; 513],
+    tasks: &mut Tasks,
+    objects: &mut Objects,
+    places: &mut Places,
+    calls: &mut [u64; OBJECTS],
+    ids: &mut [u16; TASKS],
     len: &mut usize,
 ) -> Numbers
     requires { SoundLent tasks.old objects.old places.old ids.old len.old }
@@ -610,11 +610,11 @@ pub extern "C" fn sozgarru_resume_unchecked(
 // Refused with 3 the session has ended, 4 a task runs, 5 the task is not live, 9 it is main. The caller owes a sound store: nothing is checked.
 #[unsafe(no_mangle)]
 pub extern "C" fn sozgarru_cancel_unchecked(
-    tasks: &mut [u64; 4104],
-    objects: &mut [u64; 2056],
-    places: &mut [u64; 2048],
-    calls: &mut [u64; 256],
-    ids: &mut [u16; 513],
+    tasks: &mut Tasks,
+    objects: &mut Objects,
+    places: &mut Places,
+    calls: &mut [u64; OBJECTS],
+    ids: &mut [u16; TASKS],
     len: &mut usize,
     task: u16,
 ) -> Numbers
@@ -628,10 +628,10 @@ pub extern "C" fn sozgarru_cancel_unchecked(
 // The caller owes a sound store: nothing is checked.
 #[unsafe(no_mangle)]
 pub extern "C" fn sozgarru_eager_unchecked(
-    tasks: &[u64; 4104],
-    objects: &[u64; 2056],
-    places: &[u64; 2048],
-    ids: &[u16; 513],
+    tasks: &Tasks,
+    objects: &Objects,
+    places: &Places,
+    ids: &[u16; TASKS],
     len: usize,
 ) -> Numbers
     requires { SoundRead tasks.now objects.now places.now ids.now len }
@@ -644,10 +644,10 @@ pub extern "C" fn sozgarru_eager_unchecked(
 // Refused with 5 the object is not made. The caller owes a sound store: nothing is checked.
 #[unsafe(no_mangle)]
 pub extern "C" fn sozgarru_show_unchecked(
-    tasks: &[u64; 4104],
-    objects: &[u64; 2056],
-    places: &[u64; 2048],
-    ids: &[u16; 513],
+    tasks: &Tasks,
+    objects: &Objects,
+    places: &Places,
+    ids: &[u16; TASKS],
     len: usize,
     object: u16,
 ) -> Numbers
@@ -661,10 +661,10 @@ pub extern "C" fn sozgarru_show_unchecked(
 // Refused with 5 the object is not made, or shows no such place. The caller owes a sound store: nothing is checked.
 #[unsafe(no_mangle)]
 pub extern "C" fn sozgarru_place_unchecked(
-    tasks: &[u64; 4104],
-    objects: &[u64; 2056],
-    places: &[u64; 2048],
-    ids: &[u16; 513],
+    tasks: &Tasks,
+    objects: &Objects,
+    places: &Places,
+    ids: &[u16; TASKS],
     len: usize,
     object: u16,
     place: u16,

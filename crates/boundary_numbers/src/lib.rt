@@ -1,26 +1,26 @@
 // An answer as document 01's numbers, by value: what crosses to other languages.
 #![tactic(auto)]
 
-ghost use Rattle.std.specs.Prelude.{◌≡◌, List, ◌∷◌, [], ℕ, length};
+ghost use Rattle.std.specs.Prelude.{◌≡◌, ◌+◌, ◌<◌, ◌≤◌, List, ℕ, length};
 ghost use Rattle.machine.specs.Answers.{coroutine_number};
 ghost use Rattle.machine.specs.Scheduler.{bit};
 ghost use Rattle.machine.specs.Machine.{slot_value};
 ghost use Rattle.exec_switch.specs.Answer.{answer_with};
 ghost use Rattle.step_read.specs.Reads.{places_from, shown_of, show_answer};
 ghost use Rattle.boundary_numbers.specs.Numbers.{numbers_as, places_shown, place_said, place_as, slot_said};
-ghost use Rattle.boundary_numbers.specs.Code.{said, refused_as, valued, errored, how_said, control_said, answer_said, shown_said};
+ghost use Rattle.boundary_numbers.specs.Code.{said, and_value, refused_as, how_said, control_said, answer_said, shown_said};
 
 use asyncio::words::{error_words, value_words};
-use asyncio::{CoroutineState, Error, Value};
-use exec_switch::answer::Answer;
+use asyncio::{CoroutineState, TaskId, Value};
+use exec_switch::answer::{Answer, Refusal};
 use exec_switch::control::{Control, How};
 use rows::total::result_at;
-use step_read::{Reading, Shown};
+use step_read::Shown;
 
 // The number of the refusal (0: accepted), the word's number, how many values there are, and the values; those behind them are 0. The calls of a wait stand
 // in the list, the places of a gather are read one by one.
 #[repr(C)]
-#[derive(Drop)]
+#[derive(Clone, Copy, PartialEq, Eq, Debug)]
 pub struct Numbers {
     pub refusal: u64,
     pub word: u64,
@@ -28,117 +28,107 @@ pub struct Numbers {
     pub values: [u64; 6],
 }
 
-// An accepted event's word, and up to five values.
-fn say(word: u64, count: u64, a: u64, b: u64, c: u64, d: u64, e: u64) -> Numbers
-    ensures { result ≡ said word count (a ∷ b ∷ c ∷ d ∷ e ∷ 0 ∷ []) }
-{
-    Numbers {
-        refusal: 0,
-        word,
-        count,
-        values: [a, b, c, d, e, 0],
+impl Numbers {
+    // An accepted event's word, and its values.
+    fn said(word: u64, values: &[u64]) -> Numbers
+        requires { length values.now ≤ 6 }
+        ensures { result ≡ said word values.now }
+    {
+        let mut all = [0; 6];
+        all[..values.len()].copy_from_slice(values);
+        Numbers {
+            refusal: 0,
+            word,
+            count: values.len() as u64,
+            values: all,
+        }
+    }
+
+    // One more value.
+    fn and(mut self, value: u64) -> Numbers
+        requires { self.count < 6 }
+        ensures { result ≡ and_value self value }
+    {
+        self.values[self.count as usize] = value;
+        self.count += 1;
+        self
+    }
+
+    fn refused(refusal: Refusal) -> Numbers
+        ensures { result ≡ refused_as refusal }
+    {
+        let n = refusal.number() as u64;
+        Numbers {
+            refusal: n,
+            ..Numbers::said(9, &[n])
+        }
     }
 }
 
-fn refuse(n: u16) -> Numbers
-    ensures { result ≡ refused_as n }
+// A task that goes on.
+fn runs(task: TaskId, how: How) -> Numbers
+    ensures { result ≡ how_said task.0 how }
 {
-    let m = n as u64;
-    Numbers {
-        refusal: m,
-        word: 9,
-        count: 1,
-        values: [m, 0, 0, 0, 0, 0],
-    }
-}
-
-// Main's end with a value.
-fn finish(v: Value) -> Numbers
-    ensures { result ≡ valued v }
-{
-    let w = value_words(v);
-    say(7, 3, 0, w.0, w.1, 0, 0)
-}
-
-// Main's end with an error.
-fn finish_error(e: Error) -> Numbers
-    ensures { result ≡ errored e }
-{
-    let w = error_words(e);
-    say(7, 3, 1, w.0, w.1, 0, 0)
-}
-
-// A task that goes on; `more` is 1 where steps stand behind it.
-fn runs(t: u64, how: How, more: u8, steps: u64) -> Numbers
-    ensures { result ≡ how_said t how more steps }
-{
-    let n = more as u64;
+    let t = task.word();
     match how {
         How::Start {
             coroutine,
             function,
-        } => say(3, 4 + n, t, 0, coroutine.word(), function as u64, steps),
+        } => Numbers::said(3, &[t, 0, coroutine.word(), function as u64]),
         How::Value(v) => {
             let w = value_words(v);
-            say(3, 4 + n, t, 1, w.0, w.1, steps)
+            Numbers::said(3, &[t, 1, w.0, w.1])
         }
         How::Raised(e) => {
             let w = error_words(e);
-            say(3, 4 + n, t, 2, w.0, w.1, steps)
+            Numbers::said(3, &[t, 2, w.0, w.1])
         }
-        How::Inline(c) => say(3, 3 + n, t, 3, c.word(), steps, 0),
+        How::Inline(c) => Numbers::said(3, &[t, 3, c.word()]),
     }
 }
 
 // Who has control; `calls` is how many calls a wait has.
-fn control(c: Control, calls: u64, more: u8, steps: u64) -> Numbers
-    ensures { result ≡ control_said c calls more steps }
+fn control(c: Control, calls: u64) -> Numbers
+    ensures { (result ≡ control_said c calls) × (result.count ≤ 4) }
 {
     match c {
-        Control::Runs { task, how } => runs(task.word(), how, more, steps),
-        Control::Waits => say(4, 1 + more as u64, calls, steps, 0, 0, 0),
+        Control::Runs { task, how } => runs(task, how),
+        Control::Waits => Numbers::said(4, &[calls]),
     }
 }
 
 // The same, of each answer.
+#[tactic(auto, unfolding(machine::specs::Answers::yes_no))]
 fn answer(answer: Answer, calls: u64) -> Numbers
     ensures { result ≡ answer_said answer calls }
 {
     match answer {
-        Answer::Made(o) => say(1, 1, o.word(), 0, 0, 0, 0),
-        Answer::Called(n) => say(2, 1, n.word(), 0, 0, 0, 0),
-        Answer::Switched(c) => control(c, calls, 0, 0),
-        Answer::Awaited { control: c, steps } => control(c, calls, 1, steps as u64),
-        Answer::Done => say(5, 0, 0, 0, 0, 0, 0),
-        Answer::Cancelled(n) => say(5, 1, n as u64, 0, 0, 0, 0),
-        Answer::Stalled => say(6, 0, 0, 0, 0, 0, 0),
-        Answer::Finished(v) => finish(v),
-        Answer::FinishedError(e) => finish_error(e),
-        Answer::Eager(yes) => {
-            if yes {
-                return say(8, 1, 1, 0, 0, 0, 0);
-            }
-            say(8, 1, 0, 0, 0, 0, 0)
+        Answer::Made(o) => Numbers::said(1, &[o.word()]),
+        Answer::Called(n) => Numbers::said(2, &[n.word()]),
+        Answer::Switched(c) => control(c, calls),
+        Answer::Awaited { control: c, steps } => control(c, calls).and(steps as u64),
+        Answer::Done => Numbers::said(5, &[]),
+        Answer::Cancelled(n) => Numbers::said(5, &[n as u64]),
+        Answer::Stalled => Numbers::said(6, &[]),
+        Answer::Finished(v) => {
+            let w = value_words(v);
+            Numbers::said(7, &[0, w.0, w.1])
         }
-        Answer::Refused(n) => refuse(n),
+        Answer::FinishedError(e) => {
+            let w = error_words(e);
+            Numbers::said(7, &[1, w.0, w.1])
+        }
+        Answer::Eager(yes) => Numbers::said(8, &[yes as u64]),
+        Answer::Refused(refusal) => Numbers::refused(refusal),
     }
 }
 
 // The numbers of an answer; `calls` is how many calls a wait has.
+#[tactic(auto, using(crate::proofs::NumbersLaws::same_numbers))]
 pub fn numbers_of(a: Answer, calls: u64) -> Numbers
     ensures { (cs : List ℕ) → calls ≡ length cs → result ≡ numbers_as (answer_with cs a) }
 {
     answer(a, calls)
-}
-
-fn coroutine_number(state: CoroutineState) -> u64
-    ensures { result ≡ coroutine_number state }
-{
-    match state {
-        CoroutineState::New => 0,
-        CoroutineState::Running => 1,
-        CoroutineState::Completed => 2,
-    }
 }
 
 // What an object shows: its sort and state, and what it has; of a gather's places how many there are.
@@ -147,109 +137,102 @@ fn show(x: Shown) -> Numbers
 {
     match x {
         Shown::Coroutine { state, function } => {
-            say(10, 3, 0, coroutine_number(state), function as u64, 0, 0)
+            Numbers::said(10, &[0, coroutine_number(state), function as u64])
         }
-        Shown::ExternalPending => say(10, 2, 1, 0, 0, 0, 0),
+        Shown::ExternalPending => Numbers::said(10, &[1, 0]),
         Shown::ExternalResolved(v) => {
             let w = value_words(v);
-            say(10, 4, 1, 1, w.0, w.1, 0)
+            Numbers::said(10, &[1, 1, w.0, w.1])
         }
         Shown::ExternalFailed(e) => {
             let w = error_words(e);
-            say(10, 4, 1, 2, w.0, w.1, 0)
+            Numbers::said(10, &[1, 2, w.0, w.1])
         }
-        Shown::GatherPending => say(10, 2, 2, 0, 0, 0, 0),
-        Shown::GatherAwaited {
-            first: _,
-            count,
-            open_places: _,
-        } => say(10, 3, 2, 1, count as u64, 0, 0),
-        Shown::GatherCompleted { first: _, count } => say(10, 3, 2, 2, count as u64, 0, 0),
+        Shown::GatherPending => Numbers::said(10, &[2, 0]),
+        Shown::GatherAwaited { count, .. } => Numbers::said(10, &[2, 1, count as u64]),
+        Shown::GatherCompleted { count, .. } => Numbers::said(10, &[2, 2, count as u64]),
         Shown::GatherFailed(e) => {
             let w = error_words(e);
-            say(10, 4, 2, 3, w.0, w.1, 0)
+            Numbers::said(10, &[2, 3, w.0, w.1])
         }
-        Shown::Nothing => say(10, 0, 0, 0, 0, 0, 0),
+        Shown::Nothing => Numbers::said(10, &[]),
     }
 }
 
+#[tactic(auto, unfolding(machine::specs::Answers::coroutine_number))]
+fn coroutine_number(state: CoroutineState) -> u64
+    ensures { result ≡ coroutine_number state }
+{
+    state as u64
+}
+
 // The numbers of a read of an object.
-pub fn shown_numbers(reading: Reading) -> Numbers
+#[tactic(auto, using(crate::proofs::NumbersLaws::same_shown, crate::proofs::NumbersLaws::same_refused))]
+pub fn shown_numbers(reading: Result<Shown, Refusal>) -> Numbers
     ensures { (ps : List ℕ) → result ≡ numbers_as (show_answer ps reading) }
 {
     match reading {
-        Reading::Shows(x) => show(x),
-        Reading::Refused(n) => refuse(n),
+        Ok(x) => show(x),
+        Err(refusal) => Numbers::refused(refusal),
     }
 }
 
 // An open place, or its value.
-fn slot(is_open: bool, res: Option<Value>) -> Numbers
-    ensures { result ≡ slot_said (slot_value is_open res) }
+#[tactic(auto, using(crate::proofs::NumbersLaws::slot_none, crate::proofs::NumbersLaws::slot_some), unfolding(machine::specs::Machine::slot_value))]
+fn slot(is_open: bool, result_of: Option<Value>) -> Numbers
+    ensures { result ≡ slot_said (slot_value is_open result_of) }
 {
-    if is_open {
-        return say(10, 1, 0, 0, 0, 0, 0);
-    }
-    match res {
-        None => say(10, 1, 0, 0, 0, 0, 0),
-        Some(v) => {
+    match result_of {
+        Some(v) if !is_open => {
             let w = value_words(v);
-            say(10, 3, 1, w.0, w.1, 0, 0)
+            Numbers::said(10, &[1, w.0, w.1])
         }
+        _ => Numbers::said(10, &[0]),
     }
 }
 
 // Is bit `i` set? Bits from 32 on are not.
+#[tactic(auto, using(crate::proofs::NumbersLaws::bit_high))]
 fn is_set(mask: u32, i: u16) -> bool
     ensures { result ≡ bit mask i }
 {
-    if 32 <= i {
-        return false;
-    }
-    (mask >> i) % 2 != 0
+    i < 32 && (mask >> i) % 2 != 0
 }
 
-// Place `i` of a gather that has `count` places from `first` on, or 5.
+// Place `i` of a gather that has `count` places from `first` on, or a refusal.
+#[tactic(auto, using(crate::proofs::NumbersLaws::place_none, crate::proofs::NumbersLaws::place_some))]
 fn place(places: &[u64], first: u16, count: u16, open_places: u32, i: u16) -> Numbers
     ensures { result ≡ place_said (places_from places.now first open_places 0 count) i }
 {
     if count <= i {
-        return refuse(5);
+        return Numbers::refused(Refusal::Unknown);
     }
-    let result = result_at(places, first, i);
-    slot(is_set(open_places, i), result)
+    slot(is_set(open_places, i), result_at(places, first, i))
 }
 
-// Place `i` of what an object shows, or 5 where it has no such place.
+// Place `i` of what an object shows, or a refusal where it has no such place.
+#[tactic(auto, using(crate::proofs::NumbersLaws::no_place), unfolding(crate::specs::Numbers::places_shown))]
 fn shown_place(places: &[u64], x: Shown, i: u16) -> Numbers
     ensures { result ≡ place_said (places_shown (shown_of places.now x)) i }
 {
     match x {
-        Shown::Coroutine {
-            state: _,
-            function: _,
-        } => refuse(5),
-        Shown::ExternalPending => refuse(5),
-        Shown::ExternalResolved(_) => refuse(5),
-        Shown::ExternalFailed(_) => refuse(5),
-        Shown::GatherPending => refuse(5),
         Shown::GatherAwaited {
             first,
             count,
             open_places,
         } => place(places, first, count, open_places, i),
         Shown::GatherCompleted { first, count } => place(places, first, count, 0, i),
-        Shown::GatherFailed(_) => refuse(5),
-        Shown::Nothing => refuse(5),
+        _ => Numbers::refused(Refusal::Unknown),
     }
 }
 
 // The numbers of place `i` of what was read of an object.
-pub fn place_numbers(places: &[u64], reading: Reading, i: u16) -> Numbers
+#[tactic(auto, using(crate::proofs::NumbersLaws::same_refused), unfolding(crate::specs::Numbers::place_as))]
+pub fn place_numbers(places: &[u64], reading: Result<Shown, Refusal>, i: u16) -> Numbers
     ensures { result ≡ place_as (show_answer places.now reading) i }
 {
     match reading {
-        Reading::Shows(x) => shown_place(places, x, i),
-        Reading::Refused(n) => refuse(n),
+        Ok(x) => shown_place(places, x, i),
+        Err(refusal) => Numbers::refused(refusal),
     }
 }
