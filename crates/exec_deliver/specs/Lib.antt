@@ -1,4 +1,5 @@
 pub mod ClimbLaws
+pub mod Pending
 pub mod Futures
 pub mod FutureLaws
 pub mod Delivers

@@ -26,14 +26,8 @@ pub fn deliver_awaiter_success(
             Awaiter::Nobody => return None,
             Awaiter::Task(t) => return deliver_to_task(tasks, t, TaskState::Woken(given)),
             Awaiter::GatherSlot { gather, source } => {
-                let onward = resolve_child(objects, places, gather, source, given);
-                match onward {
-                    None => return None,
-                    Some(w) => {
-                        given = Value::List(gather);
-                        to = w;
-                    }
-                }
+                to = resolve_child(objects, places, gather, source, given)?;
+                given = Value::List(gather);
             }
         }
     }
@@ -55,15 +49,7 @@ pub fn deliver_awaiter_failure(
         match to {
             Awaiter::Nobody => return None,
             Awaiter::Task(t) => return deliver_to_task(tasks, t, TaskState::Raised(error)),
-            Awaiter::GatherSlot { gather, source: _ } => {
-                let onward = fail(objects, gather, error);
-                match onward {
-                    None => return None,
-                    Some(w) => {
-                        to = w;
-                    }
-                }
-            }
+            Awaiter::GatherSlot { gather, .. } => to = fail(objects, gather, error)?,
         }
     }
 }

@@ -3,4 +3,5 @@
 
 pub mod task; // to a task
 pub mod climb; // up the gathers; what a gather does with it is exec_fill
+mod pending; // an external that is pending
 pub mod future; // from an external

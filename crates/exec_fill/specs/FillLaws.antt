@@ -1,28 +1,43 @@
 -- How the loop of fill_places meets `fill_from`, and the ways through fill_one.
-use Rattle.std.specs.Prelude.{◌≡◌, refl, Bool, true, false, List, ℕ, suc, ◌+◌, ◌-◌, ◌/◌, ◌%◌, ◌^◌, ◌≤◌, ◌<◌, eqb}
-use Rattle.std.proofs.Common.{ap, arith}
-use borrow.Author.Tests.{eq-eqb, ne_eqb}
+use Rattle.std.specs.Prelude.{◌≡◌, refl, Bool, true, false, not, List, ℕ, suc, ◌+◌, ◌-◌, ◌/◌, ◌%◌, ◌^◌, ◌≤◌, ◌<◌, ◌&&◌, eqb, Some}
+use Rattle.std.proofs.Common.{sym, ap, ◌∙◌, arith, true≢false, eqb-true, eq-eqb}
+use Rattle.asyncio.specs.Numbers.{heap_id}
+use Rattle.asyncio.specs.States.{pick}
 use Rattle.asyncio.specs.declared.HeapId.{HeapId}
 use Rattle.asyncio.specs.declared.Value.{Value}
-use Rattle.std.specs.Prelude.{Some}
 use Rattle.asyncio.specs.declared.Place.{Place}
 use Rattle.rows.specs.Tables.{place_at, place_put}
+use Rattle.machine.specs.Scheduler.{bit}
 use Rattle.machine.specs.Delivery.{Filled, filled, fill_one, fill_from}
+use Rattle.machine_laws.specs.BitLaws.{bit_le}
+use Rattle.machine_laws.specs.TestLaws.{and-true}
+use Rattle.scheduler_states.specs.OpenPlaces.{open_here}
 
-module _ (ps : List ℕ) (m p i : ℕ) (source : ℕ) (v : Value) where
-  pub fill_shut : m / 2 ^ i % 2 ≡ 0 → filled ps m ≡ fill_one ps m p i source v
+-- where not both hold, the second is taken
+not_both : (a b : Bool) (x y : Filled) → (a && b) ≡ false → y ≡ pick a (pick b x y) y
+not_both true true x y e = absurd (true≢false e)
+not_both true false x y e = refl
+not_both false b x y e = refl
+
+module _ (ps : List ℕ) (m p i : ℕ) (source : HeapId) (v : Value) {b : Bool} (e : b ≡ open_here (place_at ps) m p i source.0) where
+  -- the place is not open, or names another object
+  pub fill_other : b ≡ false → filled ps m ≡ fill_one ps m p i source.0 v
   unfolding fill_one
-  fill_shut e = rw (eq-eqb (m / 2 ^ i % 2) 0 e)
+  fill_other f = not_both (bit m i) (eqb (place_at ps p).item.0 source.0) _ _ (sym e ∙ f)
 
-  module _ (b : m / 2 ^ i % 2 ≡ 0 → ⊥) {h : HeapId} (e : h ≡ (place_at ps p).item) where
-    pub fill_other : (h.0 ≡ source → ⊥) → filled ps m ≡ fill_one ps m p i source v
-    unfolding fill_one
-    fill_other n = rw (ne_eqb (m / 2 ^ i % 2) 0 b, ← e, ne_eqb h.0 source n)
+  module _ (f : b ≡ true) where
+    both : (bit m i ≡ true) × (eqb (place_at ps p).item.0 source.0 ≡ true)
+    both = and-true (bit m i) (eqb (place_at ps p).item.0 source.0) (sym e ∙ f)
 
-    pub fill_here : h.0 ≡ source → {qs : List ℕ} → qs ≡ place_put ps p (record { item = h; result = Some v }) → {k : ℕ} → k ≡ m - 2 ^ i
-        → filled qs k ≡ fill_one ps m p i source v
+    pub bit_within : 2 ^ i ≤ m
+    bit_within = bit_le m i (λ z. true≢false (sym both.0 ∙ ap not (eq-eqb (m / 2 ^ i % 2) 0 z)))
+
+    pub fill_here : {qs : List ℕ} → qs ≡ place_put ps p (record { item = source; result = Some v }) → {k : ℕ} → k ≡ m - 2 ^ i
+        → filled qs k ≡ fill_one ps m p i source.0 v
     unfolding fill_one
-    fill_here s q r = rw (ne_eqb (m / 2 ^ i % 2) 0 b, ← e, eq-eqb h.0 source s, q, r)
+    fill_here q r =
+        let s : (place_at ps p).item ≡ source = ap heap_id (eqb-true (place_at ps p).item.0 source.0 both.1) in
+        rw (both.0, both.1, s, q, r)
 
 pub fill_turn : (ps : List ℕ) (m : ℕ) {qs : List ℕ} {k : ℕ} (first source : ℕ) (v : Value) (i n : ℕ) → i < n
     → filled qs k ≡ fill_one ps m (first + i) i source v
