@@ -1,5 +1,5 @@
 -- The ways through an item's poll, in the shape of what the code knows there.
-use Rattle.std.specs.Prelude.{◌≡◌, Bool, true, false, List, ℕ}
+use Rattle.std.specs.Prelude.{◌≡◌, Bool, true, false, List, ℕ, None, Some}
 use Rattle.std.proofs.Math.Path.{refl}
 use Rattle.std.proofs.Common.{sym, ap, ◌∙◌, true≢false}
 use Rattle.asyncio.specs.States.{is_nobody}
@@ -18,9 +18,8 @@ use Rattle.scheduler.specs.Spawn.{Spawns, done, not_done}
 use Rattle.machine.specs.Store.{Store, LogEntry, store_of, object, put_object, place}
 use Rattle.machine.specs.Scheduler as scheduler
 use Rattle.machine.specs.Commit.{raised, pending, Polled, gives, await_pending, await_external, polled_spawn, item_coroutine, polled, item_gather, item_object, open_from, item}
-use Rattle.exec_poll.specs.Polls.{poll_of, with_item, itemed, item_here, item_at}
+use Rattle.exec_poll.specs.Polls.{ItemPoll, poll_of, with_item, itemed, item_here, item_at}
 use Rattle.exec_poll.specs.declared.item.Poll.{Poll}
-use Rattle.exec_poll.specs.declared.item.ItemPoll.{ItemPoll}
 
 -- ---- an external
 
@@ -73,12 +72,18 @@ unfolding item_coroutine polled_spawn
 coroutine-not_done ts os q o g ts' os' q' b (done h) e ps l = absurd (true≢false e)
 coroutine-not_done ts os q o g ts' os' q' b (not_done h) e ps l = rw (h ps l)
 
+coroutine-old : (s : Store) (g o : ℕ) (x : CoroutineState) → (x ≡ CoroutineState.New → ⊥) → gives s (raised Error.CoroutineReuse) ≡ item_coroutine s g o x
+unfolding item_coroutine
+coroutine-old s g o CoroutineState.New n = absurd (n refl)
+coroutine-old s g o CoroutineState.Running n = refl
+coroutine-old s g o CoroutineState.Completed n = refl
+
 module _ (ts os ps : List ℕ) (q : ReadyQueue) (l : List LogEntry) (g o : ℕ) {x : CoroutineState} where
   -- it was awaited before
-  pub coroutine_reused : (y : CoroutineState) → x ≡ y → gives (store_of ts os ps q l) (raised Error.CoroutineReuse) ≡ item_coroutine (store_of ts os ps q l) g o y
+  pub coroutine_reused : (x ≡ CoroutineState.New → ⊥)
       → gives (store_of ts os ps q (item_coroutine (store_of ts os ps q l) g o x).store.log) (raised Error.CoroutineReuse)
       ≡ item_coroutine (store_of ts os ps q l) g o x
-  coroutine_reused y e f = rw (e, ← f)
+  coroutine_reused n = let f = coroutine-old (store_of ts os ps q l) g o x n in rw (← f)
 
   module _ (e : x ≡ CoroutineState.New) {us vs : List ℕ} {r : ReadyQueue} {b : Bool} (h : Spawns ts os q o g us vs r b) where
     -- a task was spawned
@@ -98,27 +103,27 @@ module _ (ts os ps : List ℕ) (q : ReadyQueue) (l : List LogEntry) (g o : ℕ) 
   here = store_of ts os ps q l
 
   -- no such object: nothing yet
-  pub item-unmade : x ≡ Object.Unmade → with_item (store_of ts os ps q (item_here here g o).store.log) (ItemPoll.Polled Poll.Pending) ≡ item_here here g o
+  pub item-unmade : x ≡ Object.Unmade → with_item (store_of ts os ps q (item_here here g o).store.log) (Some Poll.Pending) ≡ item_here here g o
   unfolding item_object object
   item-unmade f = rw (← e, f)
 
   pub item-spawns : (n : ℕ) (y : CoroutineState) → x ≡ Object.Coroutine n y → {us vs : List ℕ} {r : ReadyQueue} (p : Poll)
       → gives (store_of us vs ps r (item_coroutine here g o y).store.log) (poll_of p) ≡ item_coroutine here g o y
-      → with_item (store_of us vs ps r (item_here here g o).store.log) (ItemPoll.Polled p) ≡ item_here here g o
+      → with_item (store_of us vs ps r (item_here here g o).store.log) (Some p) ≡ item_here here g o
   unfolding item_object object
   item-spawns n y f p h = rw (← e, f) (ap (λ (d : Polled). itemed here (polled d)) h)
 
   pub item_awaits : (c : CallId) (y : ExternalFutureState) → x ≡ Object.ExternalFuture c y → {vs : List ℕ} (p : Poll)
       → gives (store_of ts vs ps q l) (poll_of p) ≡ await_external here o c y (Awaiter.GatherSlot (heap_id g) (heap_id o))
-      → with_item (store_of ts vs ps q (item_here here g o).store.log) (ItemPoll.Polled p) ≡ item_here here g o
+      → with_item (store_of ts vs ps q (item_here here g o).store.log) (Some p) ≡ item_here here g o
   unfolding item_object object
   item_awaits c y f p h = rw (← e, f, ← h)
 
   pub item_nests : (i n : ℕ) (y : GatherState) → x ≡ Object.GatherFuture i n y → (r : ItemPoll) → with_item here r ≡ itemed here (item_gather here o y)
       → with_item (store_of ts os ps q (item_here here g o).store.log) r ≡ item_here here g o
   unfolding item_object object
-  item_nests i n y f (ItemPoll.Polled p) h = rw (← e, f, ← h)
-  item_nests i n y f ItemPoll.Nested h = rw (← e, f, ← h)
+  item_nests i n y f (Some p) h = rw (← e, f, ← h)
+  item_nests i n y f None h = rw (← e, f, ← h)
 
 module _ (ts os ps : List ℕ) (q : ReadyQueue) (l : List LogEntry) (g : ℕ) (w : scheduler.AwaitedGather) (o : ℕ) {b : Bool}
     (e : b ≡ open_from (λ p. place_at ps p) w o 0 w.count) where
@@ -126,7 +131,7 @@ module _ (ts os ps : List ℕ) (q : ReadyQueue) (l : List LogEntry) (g : ℕ) (w
   from = store_of ts os ps q l
 
   -- an open place names it
-  pub item_open : b ≡ true → with_item (store_of ts os ps q (item_at from g w o).store.log) (ItemPoll.Polled Poll.Pending) ≡ item_at from g w o
+  pub item_open : b ≡ true → with_item (store_of ts os ps q (item_at from g w o).store.log) (Some Poll.Pending) ≡ item_at from g w o
   unfolding item place
   item_open f = rw (← e, f)
 

@@ -1,5 +1,6 @@
 -- What the code answers, as the machine's data.
-use Rattle.std.specs.Prelude.{ℕ}
+use Rattle.std.specs.Prelude.{ℕ, None, Some}
+use Rattle.std.specs.Prelude as rust
 use Rattle.std.proofs.Math.Option.{Option, none, some}
 use Rattle.machine.specs.Store.{Store, object}
 use Rattle.machine.specs.Scheduler as scheduler
@@ -7,7 +8,6 @@ use Rattle.machine.specs.Commit.{ready, raised, pending, gives, polled, nested, 
 use Rattle.machine.specs.Commit as machine
 use Rattle.contract.specs.Contract.{Words, kept, Slice, Does, DoesOfTasksAndObjects, DoesOfObjects, LentQueue}
 use Rattle.exec_poll.specs.declared.item.Poll.{Poll}
-use Rattle.exec_poll.specs.declared.item.ItemPoll.{ItemPoll}
 
 -- what an awaitable gives at once
 abbrev pub poll_of : Poll → machine.Poll
@@ -20,10 +20,14 @@ pub record Itemed : Type 0 where
   pub store : Store
   pub poll : Option machine.Poll
 
--- what the code says of an item
+-- what the code says of an item: polled, or none where it is a nested gather that must be committed first
+abbrev pub ItemPoll : Type 0
+ItemPoll = rust.Option Poll
+
+-- as the machine says it
 abbrev pub item_of : ItemPoll → Option machine.Poll
-item_of (ItemPoll.Polled p) = some (poll_of p)
-item_of ItemPoll.Nested = none
+item_of (Some p) = some (poll_of p)
+item_of None = none
 
 -- with the store that it leaves
 abbrev pub with_item : Store → ItemPoll → Itemed

@@ -7,24 +7,23 @@ ghost use Rattle.machine.specs.Commit.{await_external, item_coroutine, item_gath
 ghost use Rattle.scheduler_states.specs.Awaited.{awaited_gather_of};
 ghost use Rattle.exec_poll.specs.Polls.{with_item, itemed, item_at, item_here, PollsOfObjects, Polls, PollsItem, PollsItemOfPlaces};
 
-use asyncio::{Awaiter, CallId, CoroutineState, Error, ExternalFutureState, GatherState, HeapId, Object, Objects, Places, Tasks, Value};
+use asyncio::{
+    Awaiter, CallId, CoroutineState, Error, ExternalFutureState, GatherState, HeapId, Object,
+    Objects, Places, Tasks, Value,
+};
 use queue::ReadyQueue;
+use rows::tables::{load_object, store_object};
+use scheduler::spawn::spawn;
 use scheduler_states::awaited::AwaitedGather;
 use scheduler_states::places::is_open;
 
 // What an awaitable gives at once: a value, an error, or nothing yet.
-#[derive(Drop)]
+// Kept: an enum of three cases; in Result<Option<Value>, Error> no name would say that None is an awaitable that waits.
+#[derive(Clone, Copy, PartialEq, Eq, Debug)]
 pub enum Poll {
     Ready(Value),
     Raised(Error),
     Pending,
-}
-
-// One item of a gather: polled, or a nested gather that must be committed first.
-#[derive(Drop)]
-pub enum ItemPoll {
-    Polled(Poll),
-    Nested,
 }
 
 // External `o` of that call and in that state: settled, or it takes the awaiter if it has none (await_external_future).
@@ -46,18 +45,12 @@ pub fn await_external(
             awaiter: old,
             stored,
         } => {
-            if old.is_nobody() {
-                rows::tables::store_object(
-                    objects,
-                    o,
-                    Object::ExternalFuture {
-                        call,
-                        state: ExternalFutureState::Pending { awaiter, stored },
-                    },
-                );
-                return Poll::Pending;
+            if !old.is_nobody() {
+                return Poll::Raised(Error::FutureReuse);
             }
-            Poll::Raised(Error::FutureReuse)
+            let state = ExternalFutureState::Pending { awaiter, stored };
+            store_object(objects, o, Object::ExternalFuture { call, state });
+            Poll::Pending
         }
     }
 }
@@ -76,29 +69,24 @@ fn item_coroutine(
 {
     match state {
         CoroutineState::New => {
-            let spawned = scheduler::spawn::spawn(tasks, objects, queue, o, g);
-            if spawned {
+            if spawn(tasks, objects, queue, o, g) {
                 return Poll::Pending;
             }
             Poll::Raised(Error::CoroutineReuse)
         }
-        CoroutineState::Running => Poll::Raised(Error::CoroutineReuse),
-        CoroutineState::Completed => Poll::Raised(Error::CoroutineReuse),
+        _ => Poll::Raised(Error::CoroutineReuse),
     }
 }
 
-// Gather `o` in that state: nested if it is pending, else polled (poll_settled_gather).
-fn item_gather(o: HeapId, state: GatherState) -> ItemPoll
+// Gather `o` in that state: polled (poll_settled_gather), or none where it is pending, and so must be committed first.
+fn item_gather(o: HeapId, state: GatherState) -> Option<Poll>
     ensures { (s : Store) → with_item s result ≡ itemed s (item_gather s o.0 state) }
 {
     match state {
-        GatherState::Pending => ItemPoll::Nested,
-        GatherState::Awaited {
-            awaiter: _,
-            open_places: _,
-        } => ItemPoll::Polled(Poll::Raised(Error::GatherReuse)),
-        GatherState::Completed => ItemPoll::Polled(Poll::Ready(Value::List(o))),
-        GatherState::Failed(e) => ItemPoll::Polled(Poll::Raised(e)),
+        GatherState::Pending => None,
+        GatherState::Awaited { .. } => Some(Poll::Raised(Error::GatherReuse)),
+        GatherState::Completed => Some(Poll::Ready(Value::List(o))),
+        GatherState::Failed(e) => Some(Poll::Raised(e)),
     }
 }
 
@@ -109,39 +97,28 @@ fn item_object(
     queue: &mut ReadyQueue,
     g: HeapId,
     o: HeapId,
-) -> ItemPoll
+) -> Option<Poll>
     requires { o.0 < object_limit }
     ensures { PollsItem tasks objects queue (λ s. item_here s g.0 o.0) result }
 {
-    let x = rows::tables::load_object(objects, o);
-    match x {
-        Object::Unmade => ItemPoll::Polled(Poll::Pending),
-        Object::Coroutine { function: _, state } => {
-            let poll = item_coroutine(tasks, objects, queue, g, o, state);
-            ItemPoll::Polled(poll)
+    match load_object(objects, o) {
+        Object::Unmade => Some(Poll::Pending),
+        Object::Coroutine { state, .. } => {
+            Some(item_coroutine(tasks, objects, queue, g, o, state))
         }
         Object::ExternalFuture { call, state } => {
-            let poll = await_external(
-                objects,
-                o,
-                call,
-                state,
-                Awaiter::GatherSlot {
-                    gather: g,
-                    source: o,
-                },
-            );
-            ItemPoll::Polled(poll)
+            let awaiter = Awaiter::GatherSlot {
+                gather: g,
+                source: o,
+            };
+            Some(await_external(objects, o, call, state, awaiter))
         }
-        Object::GatherFuture {
-            first: _,
-            count: _,
-            state,
-        } => item_gather(o, state),
+        Object::GatherFuture { state, .. } => item_gather(o, state),
     }
 }
 
-// Object `o` as an item of gather `g`, which is `w`. An item that is open already gets another place and no second task.
+// Object `o` as an item of gather `g`, which is `w`. An item that is open already gets another place and no second task. None:
+// a nested gather that must be committed first.
 pub fn item(
     tasks: &mut Tasks,
     objects: &mut Objects,
@@ -150,13 +127,13 @@ pub fn item(
     g: HeapId,
     w: AwaitedGather,
     o: HeapId,
-) -> ItemPoll
+) -> Option<Poll>
     requires { PlacesFit w.first w.count × o.0 < object_limit }
     ensures { PollsItemOfPlaces tasks objects places.now queue
         (λ s. item_at s g.0 (awaited_gather_of w) o.0) result }
 {
     if is_open(places, w.first, w.count, w.open_places, o) {
-        return ItemPoll::Polled(Poll::Pending);
+        return Some(Poll::Pending);
     }
     item_object(tasks, objects, queue, g, o)
 }
