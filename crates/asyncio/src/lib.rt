@@ -43,6 +43,11 @@ pub type Objects = [u64; OBJECTS_LEN];
 
 pub type Places = [u64; PLACES_LEN];
 
+// Three number types of two widths, each with its one-line functions: a trait over them would be longer and hide which widths there are.
+// `from_word` reads any word, also one out of range, and `word` goes beside it: From is for what loses nothing.
+// The ranges of tasks and objects stand in clauses (`t.0 < task_limit`): the machine's definitions make a number of any word (`to_task_id`,
+// `task_id`), and a ghost field would be a field of all their records.
+
 // The number of an external call.
 #[derive(Clone, Copy, PartialEq, Eq, Debug)]
 pub struct CallId(pub u32);

@@ -13,7 +13,10 @@ use crate::{
     U32_LIMIT, Value,
 };
 
-// A tag and its number; a tag and its two numbers.
+// Functions and no From or TryFrom: they read any words, two or three at a time, and a word that means nothing reads as some value, so
+// that none fails. The definitions of specs/Layout have the same names.
+
+// A tag and its number; a tag and its two numbers: the layout's definitions name both.
 #[derive(Clone, Copy)]
 pub struct Words2(pub u64, pub u64);
 
