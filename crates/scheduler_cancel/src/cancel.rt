@@ -116,9 +116,8 @@ fn remove_blocked(
 {
     let state = rows::parts::state_at(tasks, t);
     let blocked = blocked_on(state);
-    let ready = at.queue;
-    let gone = remove_task(tasks, ready, t);
-    let queue = gone.queue;
+    let mut queue = at.queue;
+    remove_task(tasks, &mut queue, t);
     match blocked {
         Some(o) => {
             let depth = reach(objects, marks, stack, at.depth, o);
@@ -258,17 +257,20 @@ pub fn cancel_task(
     tasks: &mut Tasks,
     objects: &Objects,
     places: &Places,
-    queue: ReadyQueue,
+    queue: &mut ReadyQueue,
     t: TaskId,
-) -> ReadyQueue
+)
     requires { t.0 < task_limit }
-    ensures { Changes tasks (kept objects.now) (kept places.now) queue result (λ s. cancel_task s t.0) }
+    ensures { Changes tasks (kept objects.now) (kept places.now) queue.old queue.new (λ s. cancel_task s t.0) }
 {
     let header = rows::tables::load_header(objects);
     let table = find_tasks(tasks, header.next);
     let mut marks = [false; OBJECTS];
     let mut stack = [0u64; OBJECTS];
-    let start = Walked { queue, depth: 0 };
+    let start = Walked {
+        queue: *queue,
+        depth: 0,
+    };
     let mut w = remove_blocked(tasks, objects, &mut marks, &mut stack, start, t);
     while 0 < w.depth {
         let ready = w.queue;
@@ -288,5 +290,5 @@ pub fn cancel_task(
             g,
         );
     }
-    w.queue
+    *queue = w.queue;
 }

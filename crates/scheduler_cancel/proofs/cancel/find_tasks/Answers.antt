@@ -9,10 +9,10 @@ pub loop-t-init : goal.loop-t-init
 loop-t-init c = (tasks_of_begin c.args.tasks.now c.args.next, refl, omega arith, omega arith)
 
 pub put_task_of-requires : goal.put_task_of-requires
-put_task_of-requires c = (c.requires.0, c.loop-t.invariant.1, omega (arith, ap (λ (u : TaskId). u.0) c.new.ensures))
+put_task_of-requires c = (c.loop-t.invariant.1, omega (arith, ap (λ (u : TaskId). u.0) c.new.ensures))
 
 pub loop-t-preserved : goal.loop-t-preserved
-loop-t-preserved c = (tasks_of_turn c.args.tasks.now c.args.next c.loop-t.table (c.loop-t.t - 1) c.loop-t.t (omega arith) (omega arith) (omega arith) c.requires.1 c.loop-t.invariant.1 (ap (λ (u : TaskId). u.0) c.new.ensures) c.put_task_of.ensures c.loop-t.invariant.0, c.put_task_of.auto.table ∙ c.loop-t.invariant.1, omega arith, omega arith)
+loop-t-preserved c = (tasks_of_turn c.args.tasks.now c.args.next c.loop-t.table (c.loop-t.t - 1) c.loop-t.t (omega arith) (omega arith) (omega arith) c.requires c.loop-t.invariant.1 (ap (λ (u : TaskId). u.0) c.new.ensures) c.put_task_of.ensures c.loop-t.invariant.0, c.put_task_of.auto.table ∙ c.loop-t.invariant.1, omega arith, omega arith)
 
 pub returns : goal.returns
 returns c = tasks_of_end c.args.tasks.now c.args.next c.loop-t.table c.loop-t.t (omega arith) (omega arith) (omega arith) c.loop-t.invariant.0

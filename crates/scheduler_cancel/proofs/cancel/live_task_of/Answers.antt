@@ -8,7 +8,7 @@ pub returns-then-is_main : goal.returns-then-is_main
 returns-then-is_main c = task_of-none c.args.tasks.now c.args.table.now c.args.o.0 c.from_word-t.ensures c.is_main.ensures c.if-is_main.true
 
 pub state_at-state-requires : goal.state_at-state-requires
-state_at-state-requires c = (c.requires.0, omega (arith, ap (λ (x : TaskId). x.0) c.from_word-t.ensures))
+state_at-state-requires c = omega (arith, ap (λ (x : TaskId). x.0) c.from_word-t.ensures)
 
 pub returns-then-is_live : goal.returns-then-is_live
 returns-then-is_live c = task_of-lives c.args.tasks.now c.args.table.now c.args.o.0 c.from_word-t.ensures c.is_main.ensures c.if-is_main.false c.state_at-state.ensures c.is_live.ensures c.if-is_live.true

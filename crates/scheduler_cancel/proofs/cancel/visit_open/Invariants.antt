@@ -13,7 +13,7 @@ use Rattle.scheduler_cancel.proofs.cancel.visit_open.Given as goal
 
 abbrev pub invariant-loop-i : goal.invariant-loop-i
 invariant-loop-i l =
-    ((a : Awaiter) (l₁ : List LogEntry) → Logged (λ m. visit_open (walk_of l.table l.tasks l.objects l.places l.w m l.marks l.stack) (awaited_places l.first l.count a l.open_places) l.i (l.count - l.i)) (visit_open (walk_of l.table l.initial.tasks l.objects l.places l.initial.w l₁ l.initial.marks l.initial.stack) (awaited_places l.first l.count a l.open_places) 0 l.count)) × (length l.tasks ≡ length l.initial.tasks) × (length l.marks ≡ length l.initial.marks) × (length l.stack ≡ length l.initial.stack) × (l.i ≤ l.count) × (unmarked l.marks + l.w.depth ≤ object_limit)
+    ((a : Awaiter) (l₁ : List LogEntry) → Logged (λ m. visit_open (walk_of l.table l.tasks l.objects l.places l.w m l.marks l.stack) (awaited_places l.first l.count a l.open_places) l.i (l.count - l.i)) (visit_open (walk_of l.table l.initial.tasks l.objects l.places l.initial.w l₁ l.initial.marks l.initial.stack) (awaited_places l.first l.count a l.open_places) 0 l.count)) × (length l.marks ≡ length l.initial.marks) × (length l.stack ≡ length l.initial.stack) × (l.i ≤ l.count) × (unmarked l.marks + l.w.depth ≤ object_limit)
 
 abbrev pub decreases-loop-i : goal.decreases-loop-i
 decreases-loop-i l =
