@@ -1,39 +1,36 @@
 -- Where a walk through a gather's items stands, as the machine has it.
-use Rattle.std.specs.Prelude.{◌≡◌, ℕ, ◌+◌, ◌-◌, ◌^◌, List}
-use Rattle.asyncio.specs.States.{pick}
+use Rattle.std.specs.Prelude.{◌≡◌, ℕ, ◌-◌, List, None, Some}
+use Rattle.std.specs.Prelude as rust
 use Rattle.queue.specs.declared.ReadyQueue.{ReadyQueue}
 use Rattle.machine.specs.Store.{Store, LogEntry, store_of, object}
-use Rattle.machine.specs.Scheduler.{bit, as_awaited}
+use Rattle.machine.specs.Scheduler.{as_awaited}
 use Rattle.machine.specs.Commit.{at_end, at_nested, at_error, step_item, step_items, Frame}
 use Rattle.machine.specs.Commit as machine
 use Rattle.contract.specs.Contract.{Slice, kept, before, after, Does, LentQueue}
-use Rattle.exec_commit.specs.declared.step.ItemStep.{ItemStep}
 use Rattle.exec_commit.specs.declared.step.Stop.{Stop}
 
--- bit i set
-abbrev pub with_bit : ℕ → ℕ → ℕ
-with_bit m i = pick (bit m i) m (m + 2 ^ i)
+-- where a walk stops after an item, if it does
+abbrev pub ItemStop : Type 0
+ItemStop = rust.Option Stop
 
 -- how a walk goes on with a store
 abbrev pub Goes : Type 0
 Goes = Store → machine.Stop
-
--- after the item in place i: `go` on with the store, or stopped there
-unfoldable pub stepped : Store → ℕ → ItemStep → Goes → machine.Stop
-stepped s i ItemStep.Next go = go s
-stepped s i ItemStep.End go = at_end s
-stepped s i (ItemStep.Nested o) go = at_nested s i o.0
-stepped s i (ItemStep.Raised e) go = at_error s e
-
--- the machine's item in place i of gather g, then `go` on
-abbrev pub step_at : Store → ℕ → ℕ → Goes → machine.Stop
-step_at s g i go = step_item g i s (as_awaited (object s g)) go
 
 -- where a walk stopped
 unfoldable pub stopped : Store → Stop → machine.Stop
 stopped s Stop.End = at_end s
 stopped s (Stop.Nested i o) = at_nested s i o.0
 stopped s (Stop.Raised e) = at_error s e
+
+-- after an item: `go` on with the store, or stopped there
+unfoldable pub stepped : Store → ItemStop → Goes → machine.Stop
+stepped s None go = go s
+stepped s (Some x) go = stopped s x
+
+-- the machine's item in place i of gather g, then `go` on
+abbrev pub step_at : Store → ℕ → ℕ → Goes → machine.Stop
+step_at s g i go = step_item g i s (as_awaited (object s g)) go
 
 -- what has happened where a walk stopped
 abbrev pub stop_log : machine.Stop → List LogEntry
@@ -52,17 +49,17 @@ frame g i = record { gather = g; next = i }
 
 -- ---- what a call does
 
--- The call puts what the item of place i gave, as f does, however the walk goes on.
-abbrev pub StepsPlace : Slice → Slice → ℕ → (Store → Goes → machine.Stop) → ItemStep → Type 0
-StepsPlace objects places i f r =
+-- The call puts what an item gave, as f does, however the walk goes on.
+abbrev pub StepsPlace : Slice → Slice → (Store → Goes → machine.Stop) → ItemStop → Type 0
+StepsPlace objects places f r =
     (ts : List ℕ) (q : ReadyQueue) (l : List LogEntry) (go : Goes) →
-    stepped (after (kept ts) objects places q l) i r go ≡ f (before (kept ts) objects places q l) go
+    stepped (after (kept ts) objects places q l) r go ≡ f (before (kept ts) objects places q l) go
 
--- The call steps the item of place i, as f does, with a lent queue. What has happened does not hang on how the walk goes on.
-abbrev pub StepsTo : Slice → Slice → Slice → LentQueue → ℕ → (Store → Goes → machine.Stop) → ItemStep → Type 0
-StepsTo tasks objects places queue i f r =
+-- The call steps an item, as f does, with a lent queue. What has happened does not hang on how the walk goes on.
+abbrev pub StepsTo : Slice → Slice → Slice → LentQueue → (Store → Goes → machine.Stop) → ItemStop → Type 0
+StepsTo tasks objects places queue f r =
     (l : List LogEntry) (go : Goes) →
-    stepped (after tasks objects places queue.exit.now (stop_log (f (before tasks objects places queue.entry.now l) at_end))) i r go
+    stepped (after tasks objects places queue.exit.now (stop_log (f (before tasks objects places queue.entry.now l) at_end))) r go
     ≡ f (before tasks objects places queue.entry.now l) go
 
 -- The call walks through the items of a gather and stops, as f does.

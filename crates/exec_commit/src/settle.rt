@@ -13,36 +13,30 @@ use crate::OBJECTS;
 use crate::step::{fill_place, open_place};
 use asyncio::{Awaiter, Error, GatherState, HeapId, Object, Objects, Places, Value};
 use exec_poll::item::Poll;
-use scheduler_states::awaited::{as_awaited};
+use rows::tables::{load_object, store_object};
+use scheduler_states::awaited::as_awaited;
 
 // A gather with that state; any other object as it is.
 fn with_state(o: Object, state: GatherState) -> Object
     ensures { result ≡ with_state o state }
 {
     match o {
-        Object::Unmade => Object::Unmade,
-        Object::Coroutine { function, state: x } => Object::Coroutine { function, state: x },
-        Object::ExternalFuture { call, state: x } => Object::ExternalFuture { call, state: x },
-        Object::GatherFuture {
-            first,
-            count,
-            state: _,
-        } => Object::GatherFuture {
+        Object::GatherFuture { first, count, .. } => Object::GatherFuture {
             first,
             count,
             state,
         },
+        _ => o,
     }
 }
 
-// Gather `g` in that state.
+// Gather `g` in that state. (Any other object is stored as it was read: the machine puts it too, and its words may change by that.)
 fn set_gather(objects: &mut Objects, g: HeapId, state: GatherState)
     requires { g.0 < object_limit }
     ensures { ChangesObjects objects (λ s. set_gather s g.0 state) }
 {
-    let o = rows::tables::load_object(objects, g);
-    let changed = with_state(o, state);
-    rows::tables::store_object(objects, g, changed);
+    let changed = with_state(load_object(objects, g), state);
+    store_object(objects, g, changed);
 }
 
 // Gather `g` is awaited, with no place open yet.
@@ -65,17 +59,14 @@ pub(crate) fn settle_gather_commit(objects: &mut Objects, g: HeapId) -> Poll
     requires { g.0 < object_limit }
     ensures { PollsOfObjects objects (λ s. settle_gather_commit s g.0) result }
 {
-    let a = as_awaited(objects, g);
-    match a {
-        None => Poll::Pending,
-        Some(w) => {
-            if w.open_places == 0 {
-                set_gather(objects, g, GatherState::Completed);
-                return Poll::Ready(Value::List(g));
-            }
-            Poll::Pending
-        }
+    let Some(w) = as_awaited(objects, g) else {
+        return Poll::Pending;
+    };
+    if w.open_places != 0 {
+        return Poll::Pending;
     }
+    set_gather(objects, g, GatherState::Completed);
+    Poll::Ready(Value::List(g))
 }
 
 // The nested gather in place `next` of gather `g` was settled: the place is filled or open.
@@ -90,14 +81,13 @@ pub(crate) fn resume_after_child(
     ensures { ChangesObjectsAndPlaces objects places
         (λ s. resume_after_child (frame g.0 next) (gives s (poll_of poll))) }
 {
-    let a = as_awaited(objects, g);
-    match a {
-        None => {}
-        Some(w) => match poll {
-            Poll::Ready(v) => fill_place(places, w, next, v),
-            Poll::Raised(_) => {}
-            Poll::Pending => open_place(objects, g, w, next),
-        },
+    let Some(w) = as_awaited(objects, g) else {
+        return;
+    };
+    match poll {
+        Poll::Ready(v) => fill_place(places, w, next, v),
+        Poll::Raised(_) => {}
+        Poll::Pending => open_place(objects, g, w, next),
     }
 }
 
@@ -113,9 +103,7 @@ pub(crate) fn unwind_gather_commits(
     ensures { Unwinds objects g.0 gathers depth error }
 {
     set_gather(objects, g, GatherState::Failed(error));
-    let mut d = depth;
-    while 0 < d {
-        d -= 1;
+    for d in (0..depth).rev() {
         set_gather(objects, HeapId::new(gathers[d]), GatherState::Failed(error));
     }
 }

@@ -6,40 +6,23 @@ ghost use Rattle.rows.specs.Tables.{object_at};
 ghost use Rattle.machine.specs.Commit.{open_place, fill_place, put_polled, step_gather_commit};
 ghost use Rattle.scheduler_states.specs.Awaited.{awaited_gather_of};
 ghost use Rattle.exec_poll.specs.Polls.{poll_of};
-ghost use Rattle.exec_commit.specs.Steps.{with_bit, step_at, frame, StepsPlace, StepsTo, StopsAt};
+ghost use Rattle.exec_commit.specs.Steps.{step_at, frame, StepsPlace, StepsTo, StopsAt};
 ghost use Rattle.contract.specs.Contract.{ChangesObjects, ChangesPlaces};
 
-use asyncio::{Error, GatherState, HeapId, Object, Objects, Place, Places, Tasks, Value};
+use asyncio::{Error, GatherState, HeapId, Objects, Place, Places, Tasks, Value};
+use exec_poll::item::{Poll, item};
 use queue::ReadyQueue;
-use exec_poll::item::{ItemPoll, Poll, item};
-use scheduler_states::awaited::{AwaitedGather, as_awaited};
+use rows::parts::{count_at, item_at};
+use rows::tables::store_place;
+use scheduler_states::awaited::{AwaitedGather, as_awaited, put_gather};
 
-// How a walk stands after an item: it goes on, or it stops because the gather is not awaited, at a nested gather, at an error.
-#[derive(Drop)]
-pub enum ItemStep {
-    Next,
-    End,
-    Nested(HeapId),
-    Raised(Error),
-}
-
-// Where the walk through a gather's items stopped: at the end, at a nested gather in place `at`, at an error.
-#[derive(Drop)]
+// Where the walk through a gather's items stopped: at the end, or where the gather is not awaited; at a nested gather in place `at`; at an
+// error.
+#[derive(Clone, Copy, PartialEq, Eq, Debug)]
 pub enum Stop {
     End,
     Nested { at: u16, item: HeapId },
     Raised(Error),
-}
-
-// Bit `i` of the open places, set.
-fn with_bit(open_places: u32, i: usize) -> u32
-    requires { i < item_limit }
-    ensures { result ≡ with_bit open_places i }
-{
-    if (open_places >> i) % 2 == 0 {
-        return open_places + (1u32 << i);
-    }
-    open_places
 }
 
 // Place `i` of gather `g`, which is `w`, is open.
@@ -47,20 +30,11 @@ pub(crate) fn open_place(objects: &mut Objects, g: HeapId, w: AwaitedGather, i: 
     requires { (g.0 < object_limit) × (i < item_limit) }
     ensures { ChangesObjects objects (λ s. open_place s g.0 (awaited_gather_of w) i) }
 {
-    let awaiter = w.awaiter;
-    let open_places = with_bit(w.open_places, i);
-    rows::tables::store_object(
-        objects,
-        g,
-        Object::GatherFuture {
-            first: w.first,
-            count: w.count,
-            state: GatherState::Awaited {
-                awaiter,
-                open_places,
-            },
-        },
-    );
+    let state = GatherState::Awaited {
+        awaiter: w.awaiter,
+        open_places: w.open_places | (1 << i),
+    };
+    put_gather(objects, g, w, state);
 }
 
 // Place `i` of the gather `w` has a value.
@@ -69,15 +43,12 @@ pub(crate) fn fill_place(places: &mut Places, w: AwaitedGather, i: usize, value:
     ensures { ChangesPlaces places (λ s. fill_place s (awaited_gather_of w) i value) }
 {
     let p = w.first as usize + i;
-    let item = rows::parts::item_at(places, p);
-    rows::tables::store_place(
-        places,
-        p,
-        Place {
-            item,
-            result: Some(value),
-        },
-    );
+    let item = item_at(places, p);
+    let place = Place {
+        item,
+        result: Some(value),
+    };
+    store_place(places, p, place);
 }
 
 // What the item of place `i` gave is put there; an error stops the walk.
@@ -88,49 +59,45 @@ fn put_polled(
     w: AwaitedGather,
     i: usize,
     poll: Poll,
-) -> ItemStep
+) -> Option<Stop>
     requires { (g.0 < object_limit) × (i < item_limit) × (w.first + i < place_limit) }
-    ensures { StepsPlace objects places i
+    ensures { StepsPlace objects places
         (λ s go. put_polled g.0 (awaited_gather_of w) i s (poll_of poll) go) result }
 {
     match poll {
         Poll::Ready(v) => {
             fill_place(places, w, i, v);
-            ItemStep::Next
+            None
         }
-        Poll::Raised(e) => ItemStep::Raised(e),
+        Poll::Raised(e) => Some(Stop::Raised(e)),
         Poll::Pending => {
             open_place(objects, g, w, i);
-            ItemStep::Next
+            None
         }
     }
 }
 
-// The item in place `i` of gather `g`.
+// The item in place `i` of gather `g`: where the walk stops there, if it does.
 fn step_item(
     tasks: &mut Tasks,
     objects: &mut Objects,
     places: &mut Places,
     queue: &mut ReadyQueue,
     g: HeapId,
-    i: usize,
-) -> ItemStep
+    i: u16,
+) -> Option<Stop>
     requires { g.0 < object_limit × i < count_of (object_at objects.old g.0) }
-    ensures { StepsTo tasks objects places queue i
+    ensures { StepsTo tasks objects places queue
         (λ s go. step_at s g.0 i go) result }
 {
-    let a = as_awaited(objects, g);
-    match a {
-        None => ItemStep::End,
-        Some(w) => {
-            let o = rows::parts::item_at(places, w.first as usize + i);
-            let polled = item(tasks, objects, places, queue, g, w, o);
-            match polled {
-                ItemPoll::Nested => ItemStep::Nested(o),
-                ItemPoll::Polled(poll) => put_polled(objects, places, g, w, i, poll),
-            }
-        }
-    }
+    let Some(w) = as_awaited(objects, g) else {
+        return Some(Stop::End);
+    };
+    let o = item_at(places, w.first as usize + i as usize);
+    let Some(poll) = item(tasks, objects, places, queue, g, w, o) else {
+        return Some(Stop::Nested { at: i, item: o });
+    };
+    put_polled(objects, places, g, w, i as usize, poll)
 }
 
 // The items of gather `g` from place `next` on, left to right, up to the end, a nested gather that must be committed first, or an error.
@@ -146,15 +113,10 @@ pub(crate) fn step_gather_commit(
     ensures { StopsAt tasks objects places queue
         (λ s. step_gather_commit s (frame g.0 next)) result }
 {
-    let count = rows::parts::count_at(objects, g);
-    let mut i = next;
-    while i < count {
-        let step = step_item(tasks, objects, places, queue, g, i as usize);
-        match step {
-            ItemStep::Next => i += 1,
-            ItemStep::End => return Stop::End,
-            ItemStep::Nested(o) => return Stop::Nested { at: i, item: o },
-            ItemStep::Raised(e) => return Stop::Raised(e),
+    let count = count_at(objects, g);
+    for i in next..count {
+        if let Some(stop) = step_item(tasks, objects, places, queue, g, i) {
+            return stop;
         }
     }
     Stop::End

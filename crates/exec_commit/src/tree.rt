@@ -10,11 +10,11 @@ use crate::settle::{
 };
 use crate::step::{Stop, step_gather_commit};
 use asyncio::{Awaiter, HeapId, Objects, Places, Tasks};
-use queue::ReadyQueue;
 use exec_poll::item::Poll;
+use queue::ReadyQueue;
 
 // What the await sees after a commit, and the number of commit steps.
-#[derive(Drop)]
+#[derive(Clone, Copy, PartialEq, Eq, Debug)]
 pub struct Committed {
     pub poll: Poll,
     pub steps: u16,
