@@ -1,26 +1,20 @@
 -- Clauses 1 and 2: what the code reads of an object or a task says what the definition asks, a law for each way through.
 use Rattle.std.specs.Prelude.{◌≡◌, refl, Bool, true, false, not, List, eqb, ltb, leb}
-use Rattle.std.proofs.Common.{sym, ap, ◌∙◌, one-mul, mod-eq_of_lt, pow_pos}
-use Prim.Native.Nat.{ℕ, suc, ◌+◌, ◌-◌, ◌*◌, ◌%◌, ◌^◌, ◌≤◌, ◌<◌}
+use Rattle.std.proofs.Common.{sym, ◌∙◌, pow_pos}
+use Prim.Native.Nat.{ℕ, suc, ◌+◌, ◌-◌, ◌^◌, ◌≤◌}
 use native.Mathlib.Omega.{arith}
-use Rattle.std.proofs.Math.Pow.{pow-lt}
-use borrow.Author.Tests.{eq-eqb, ne_eqb, eqb-true, eqb-false, lt-ltb, le-leb, lt-leb, leb-true, leb-false}
+use borrow.Author.Tests.{eq-eqb, ne_eqb, eqb-false, lt-ltb, le-leb, lt-leb, leb-true, leb-false}
 use Rattle.asyncio.specs.Limits.{item_limit}
-use Rattle.asyncio.specs.Numbers.{heap_id, task_id}
 use Rattle.asyncio.specs.States.{pick, is_nobody, is_live, is_unstarted}
 use Rattle.asyncio.specs.Kinds.{kind, each_object, is_coroutine, is_external, is_gather, is_committed}
 use Rattle.asyncio.specs.Parts.{awaiter_of, call_of, first_of, count_of, open_of}
 use Rattle.asyncio.specs.declared.Awaiter.{Awaiter}
 use Rattle.asyncio.specs.declared.CallId.{CallId}
-use Rattle.asyncio.specs.declared.CoroutineState.{CoroutineState}
-use Rattle.asyncio.specs.declared.ExternalFutureState.{ExternalFutureState}
-use Rattle.asyncio.specs.declared.GatherState.{GatherState}
 use Rattle.asyncio.specs.declared.Header.{Header}
 use Rattle.asyncio.specs.declared.HeapId.{HeapId}
 use Rattle.asyncio.specs.declared.Kind.{Kind}
 use Rattle.asyncio.specs.declared.Object.{Object}
 use Rattle.asyncio.specs.declared.Task.{Task}
-use Rattle.asyncio.specs.declared.TaskId.{TaskId}
 use Rattle.asyncio.specs.declared.TaskState.{TaskState}
 use Rattle.rows.specs.Tables.{task_at, object_at}
 use Rattle.machine.specs.Tests.{◌and◌, implies, all_below, sum_below}
@@ -28,17 +22,6 @@ use Rattle.machine.specs.Sound.{awaiter_in_range, is_slot, open_in_range, object
 use Rattle.rows.specs.TableLaws.{places_fit}
 use Rattle.sound_words.specs.Loops.{and_assoc, all_and, pass, stop, sum_none, sum_turn}
 use Rattle.sound_rows.specs.Numbers.{object_ranged, objects_ranged}
-
--- `1u64 << n`, as the machine has it
-pub shifted_long : (n : ℕ) → n ≤ item_limit → 1 * 2 ^ n % 18446744073709551616 ≡ 2 ^ n
-shifted_long n h = let l : n < 64 = omega arith in rw one-mul (mod-eq_of_lt (pow-lt l))
-
--- the number of what `new` makes
-pub heap_number : {h : HeapId} {n : ℕ} → h ≡ heap_id n → h.0 ≡ n
-heap_number e = ap (λ (h : HeapId). h.0) e
-
-pub task-number : {t : TaskId} {n : ℕ} → t ≡ task_id n → t.0 ≡ n
-task-number e = ap (λ (t : TaskId). t.0) e
 
 -- a gather has at most 32 places
 pub count_fits : (os : List ℕ) (o : ℕ) {n : ℕ} → n ≡ count_of (object_at os o) → n ≤ item_limit
@@ -108,48 +91,29 @@ module _ (h : Header) (os : ℕ → Object) where
 -- ---- a task
 
 module _ (h : Header) (os : ℕ → Object) (t : ℕ) (x : Task) where
-  main-by : t ≡ 0 → task_in_range h os t x ≡ not (is_unstarted x.state) and is_nobody x.awaiter and eqb x.coroutine.0 0
+  pub main_by : t ≡ 0 → task_in_range h os t x ≡ not (is_unstarted x.state) and is_nobody x.awaiter and eqb x.coroutine.0 0
   unfolding task_in_range
-  main-by e = rw e
+  main_by e = rw e
 
-  spawned_by : (t ≡ 0 → ⊥) → task_in_range h os t x
+  pub spawned_by : (t ≡ 0 → ⊥) → task_in_range h os t x
       ≡ implies (is_live x.state) (is_slot x.awaiter and awaiter_in_range h x.awaiter and ltb x.coroutine.0 h.made and is_coroutine (kind (os x.coroutine.0)))
   unfolding task_in_range
   spawned_by ne = let e : t ≡ suc (t - 1) = omega arith in rw e
 
 module _ (h : Header) (os : ℕ → Object) (ts : List ℕ) (t : ℕ) {s : TaskState} (e : s ≡ (task_at ts t).state) where
-  module _ (z : eqb t 0 ≡ true) where
-    pub main_unstarted : is_unstarted s ≡ true → false ≡ task_in_range h os t (task_at ts t)
-    unfolding ◌and◌
-    main_unstarted u = rw (main-by h os t (task_at ts t) (eqb-true t 0 z), ← e, u)
-
-    module _ (u : is_unstarted s ≡ false) {w : Awaiter} (f : w ≡ (task_at ts t).awaiter) where
-      pub main_awaited : is_nobody w ≡ false → false ≡ task_in_range h os t (task_at ts t)
-      unfolding ◌and◌
-      main_awaited v = rw (main-by h os t (task_at ts t) (eqb-true t 0 z), ← e, u, ← f, v)
-
-      pub main_ranged : {c : HeapId} → is_nobody w ≡ true → c ≡ (task_at ts t).coroutine → eqb c.0 0 ≡ task_in_range h os t (task_at ts t)
-      unfolding ◌and◌
-      main_ranged v g = rw (main-by h os t (task_at ts t) (eqb-true t 0 z), ← e, u, ← f, v, ← g)
-
-  module _ (z : eqb t 0 ≡ false) where
-    pub dead_ranged : is_live s ≡ false → true ≡ task_in_range h os t (task_at ts t)
+  module _ (z : eqb t 0 ≡ false) (u : is_live s ≡ true) {w : Awaiter} (f : w ≡ (task_at ts t).awaiter) where
+    pub live-apart : false ≡ is_slot w and awaiter_in_range h w → false ≡ task_in_range h os t (task_at ts t)
     unfolding implies
-    dead_ranged u = rw (spawned_by h os t (task_at ts t) (eqb-false t 0 z), ← e, u)
+    live-apart v =
+        rw (spawned_by h os t (task_at ts t) (eqb-false t 0 z), ← e, u, ← f)
+        (stop _ v ∙ and_assoc (is_slot w) (awaiter_in_range h w) (ltb (task_at ts t).coroutine.0 h.made and is_coroutine (kind (os (task_at ts t).coroutine.0))))
 
-    module _ (u : is_live s ≡ true) {w : Awaiter} (f : w ≡ (task_at ts t).awaiter) where
-      pub live-apart : false ≡ is_slot w and awaiter_in_range h w → false ≡ task_in_range h os t (task_at ts t)
-      unfolding implies
-      live-apart v =
-          rw (spawned_by h os t (task_at ts t) (eqb-false t 0 z), ← e, u, ← f)
-          (stop _ v ∙ and_assoc (is_slot w) (awaiter_in_range h w) (ltb (task_at ts t).coroutine.0 h.made and is_coroutine (kind (os (task_at ts t).coroutine.0))))
-
-      pub live_ranged : {c : HeapId} {r : Bool} → true ≡ is_slot w and awaiter_in_range h w → c ≡ (task_at ts t).coroutine
-          → r ≡ ltb c.0 h.made and is_coroutine (kind (os c.0)) → r ≡ task_in_range h os t (task_at ts t)
-      unfolding implies
-      live_ranged {c} v g q =
-          rw (spawned_by h os t (task_at ts t) (eqb-false t 0 z), ← e, u, ← f, ← g)
-          (pass v q ∙ and_assoc (is_slot w) (awaiter_in_range h w) (ltb c.0 h.made and is_coroutine (kind (os c.0))))
+    pub live_ranged : {c : HeapId} {r : Bool} → true ≡ is_slot w and awaiter_in_range h w → c ≡ (task_at ts t).coroutine
+        → r ≡ ltb c.0 h.made and is_coroutine (kind (os c.0)) → r ≡ task_in_range h os t (task_at ts t)
+    unfolding implies
+    live_ranged {c} v g q =
+        rw (spawned_by h os t (task_at ts t) (eqb-false t 0 z), ← e, u, ← f, ← g)
+        (pass v q ∙ and_assoc (is_slot w) (awaiter_in_range h w) (ltb c.0 h.made and is_coroutine (kind (os c.0))))
 
 -- ---- the whole of clause 1
 
@@ -164,25 +128,12 @@ regroup true false true false e = refl
 regroup true false false d e = refl
 
 module _ (h : Header) (os : ℕ → Object) (ts : ℕ → Task) where
-  numbers-by : numbers_in_range h os ts ≡ leb 1 h.next and objects_ranged h os and all_below h.next (λ t. task_in_range h os t (ts t))
+  pub numbers_by : numbers_in_range h os ts ≡ leb 1 h.next and objects_ranged h os and all_below h.next (λ t. task_in_range h os t (ts t))
   unfolding numbers_in_range counts_in_range objects_ranged object_ranged
-  numbers-by =
+  numbers_by =
       rw (all_and (λ o. object_in_range h (places_below os o) (os o)) (λ o. awaiter_in_range h (awaiter_of (os o))) h.made)
       (regroup (leb 1 h.next) (eqb h.used (places_below os h.made)) (all_below h.made (λ o. object_in_range h (places_below os o) (os o)))
       (all_below h.made (λ o. awaiter_in_range h (awaiter_of (os o)))) (all_below h.next (λ t. task_in_range h os t (ts t))))
-
-  pub none-next : h.next ≡ 0 → false ≡ numbers_in_range h os ts
-  none-next e = rw (numbers-by, e) (stop _ refl)
-
-  module _ (ne : h.next ≡ 0 → ⊥) where
-    some_next : true ≡ leb 1 h.next
-    some_next = sym (le-leb 1 h.next (omega arith))
-
-    pub numbers_fail : false ≡ objects_ranged h os → false ≡ numbers_in_range h os ts
-    numbers_fail e = pass some_next (stop _ e) ∙ sym numbers-by
-
-    pub numbers_end : {r : Bool} → true ≡ objects_ranged h os → r ≡ all_below h.next (λ t. task_in_range h os t (ts t)) → r ≡ numbers_in_range h os ts
-    numbers_end e q = pass some_next (pass e q) ∙ sym numbers-by
 
 -- ---- 2. the places of committed gathers
 

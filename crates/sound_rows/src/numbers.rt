@@ -16,13 +16,14 @@ use rows::parts::{
 // ---- 1. Numbers and counts lie in range.
 
 // A task named as an awaiter, even a dead one, is below the next number; a gather is made.
+#[tactic(auto, using(sound_words::specs::Loops::both), unfolding(machine::specs::Sound::awaiter_in_range))]
 fn awaiter_in_range(header: Header, w: Awaiter) -> bool
     ensures { result ≡ awaiter_in_range header w }
 {
     match w {
         Awaiter::Nobody => true,
         Awaiter::Task(t) => t.0 < header.next,
-        Awaiter::GatherSlot { gather, source: _ } => gather.0 < header.made,
+        Awaiter::GatherSlot { gather, .. } => gather.0 < header.made,
     }
 }
 
@@ -41,16 +42,12 @@ fn object_in_range(header: Header, objects: &Objects, o: HeapId, p: u16) -> bool
 {
     let kind = kind_at(objects, o);
     if kind.is_external() {
-        let call = call_at(objects, o);
-        return call.word() < header.calls as u64;
+        call_at(objects, o).word() < header.calls as u64
+    } else if kind.is_gather() {
+        first_at(objects, o) == p && open_in_range(count_at(objects, o), open_at(objects, o))
+    } else {
+        kind.is_coroutine()
     }
-    if kind.is_gather() {
-        if first_at(objects, o) == p {
-            return open_in_range(count_at(objects, o), open_at(objects, o));
-        }
-        return false;
-    }
-    kind.is_coroutine()
 }
 
 // Objects and their awaiters, and the places used: `p` is where the places of the gathers so far end.
@@ -58,49 +55,38 @@ fn objects_in_range(header: Header, objects: &Objects) -> bool
     requires { header.made ≤ object_limit }
     ensures { result ≡ objects_ranged header (object_in objects) }
 {
-    let made = header.made;
-    let mut p: u16 = 0;
-    let mut o: u16 = 0;
-    while o < made {
-        let object = HeapId::new(o);
-        if object_in_range(header, objects, object, p) {
-            if awaiter_in_range(header, awaiter_at(objects, object)) {
-                p += count_at(objects, object);
-                o += 1;
-            } else {
-                return false;
-            }
-        } else {
+    let mut p = 0;
+    for o in 0..header.made {
+        let object = HeapId(o);
+        if !object_in_range(header, objects, object, p)
+            || !awaiter_in_range(header, awaiter_at(objects, object))
+        {
             return false;
         }
+        p += count_at(objects, object);
     }
     header.used == p
 }
 
 // A slot of a gather that is made.
+#[tactic(auto, using(sound_words::specs::Loops::both), unfolding(machine::specs::Sound::is_slot, machine::specs::Sound::awaiter_in_range))]
 fn slot_in_range(header: Header, w: Awaiter) -> bool
     ensures { result ≡ is_slot w and awaiter_in_range header w }
 {
-    match w {
-        Awaiter::Nobody => false,
-        Awaiter::Task(_) => false,
-        Awaiter::GatherSlot { gather, source: _ } => gather.0 < header.made,
-    }
+    matches!(w, Awaiter::GatherSlot { gather, .. } if gather.0 < header.made)
 }
 
 // Object `c` is made, and a coroutine.
+#[tactic(auto, using(sound_words::specs::Loops::both))]
 fn coroutine_made(made: u16, objects: &Objects, c: HeapId) -> bool
     requires { made ≤ object_limit }
     ensures { result ≡ ltb c.0 made and is_coroutine (kind (object_in objects c.0)) }
 {
-    if c.0 < made {
-        let kind = kind_at(objects, c);
-        return kind.is_coroutine();
-    }
-    false
+    c.0 < made && kind_at(objects, c).is_coroutine()
 }
 
 // Main is never unstarted, and has no awaiter and no coroutine. A live spawned task has a slot for its awaiter, and names a coroutine.
+#[tactic(auto, using(sound_words::specs::Loops::both, sound_words::specs::Loops::and_assoc, crate::specs::NumberLaws::main_by, crate::specs::NumberLaws::spawned_by), unfolding(machine::specs::Tests::implies))]
 fn task_in_range(header: Header, tasks: &Tasks, objects: &Objects, t: TaskId) -> bool
     requires { (header.made ≤ object_limit) × (t.0 < task_limit) }
     ensures { result ≡ task_in_range header (object_in objects) t.0 (task_in tasks t.0) }
@@ -109,51 +95,26 @@ fn task_in_range(header: Header, tasks: &Tasks, objects: &Objects, t: TaskId) ->
     let awaiter = task_awaiter_at(tasks, t);
     let coroutine = coroutine_at(tasks, t);
     if t.is_main() {
-        if state.is_unstarted() {
-            return false;
-        }
-        if awaiter.is_nobody() {
-            return coroutine.0 == 0;
-        }
-        return false;
+        return !state.is_unstarted() && awaiter.is_nobody() && coroutine.0 == 0;
     }
-    if state.is_live() {
-        if slot_in_range(header, awaiter) {
-            return coroutine_made(header.made, objects, coroutine);
-        }
-        return false;
-    }
-    true
+    !state.is_live()
+        || slot_in_range(header, awaiter) && coroutine_made(header.made, objects, coroutine)
 }
 
 fn tasks_in_range(header: Header, tasks: &Tasks, objects: &Objects) -> bool
     requires { (header.made ≤ object_limit) × (header.next ≤ task_limit) }
     ensures { result ≡ all_below header.next (λ t. task_in_range header (object_in objects) t (task_in tasks t)) }
 {
-    let next = header.next;
-    let mut t: u16 = 0;
-    while t < next {
-        if task_in_range(header, tasks, objects, TaskId::new(t)) {
-            t += 1;
-        } else {
-            return false;
-        }
-    }
-    true
+    (0..header.next).all(|t| task_in_range(header, tasks, objects, TaskId(t)))
 }
 
 // Counts, objects, awaiters and tasks.
+#[tactic(auto, using(sound_words::specs::Loops::both, crate::specs::NumberLaws::numbers_by))]
 pub fn numbers_in_range(header: Header, tasks: &Tasks, objects: &Objects) -> bool
     requires { (header.made ≤ object_limit) × (header.next ≤ task_limit) }
     ensures { result ≡ numbers_in_range header (object_in objects) (task_in tasks) }
 {
-    if header.next == 0 {
-        return false;
-    }
-    if objects_in_range(header, objects) {
-        return tasks_in_range(header, tasks, objects);
-    }
-    false
+    header.next != 0 && objects_in_range(header, objects) && tasks_in_range(header, tasks, objects)
 }
 
 // ---- 2. No more tasks were spawned than committed gathers have places.
@@ -163,16 +124,11 @@ fn committed_places(objects: &Objects, made: u16) -> u16
     requires { made ≤ object_limit }
     ensures { (result ≡ sum_below made (λ o. committed_places (object_in objects o))) × (result ≤ item_limit * object_limit) }
 {
-    let mut sum: u16 = 0;
-    let mut o: u16 = 0;
-    while o < made {
-        let object = HeapId::new(o);
-        let kind = kind_at(objects, object);
-        if kind.is_committed() {
+    let mut sum = 0;
+    for o in 0..made {
+        let object = HeapId(o);
+        if kind_at(objects, object).is_committed() {
             sum += count_at(objects, object);
-            o += 1;
-        } else {
-            o += 1;
         }
     }
     sum

@@ -1,6 +1,6 @@
 use mathlib.Core.Path.{◌≡◌}
 use mathlib.Core.Bool.{true}
-use Prim.Native.Nat.{◌-◌, ◌*◌, ◌≤◌}
+use Prim.Native.Nat.{◌*◌, ◌≤◌}
 use Rattle.rows.specs.Tables.{object_at}
 use Rattle.machine.specs.Tests.{all_below}
 use Rattle.machine.specs.Sound.{places_below}
@@ -8,7 +8,4 @@ use Rattle.sound_rows.specs.Numbers.{object_ranged}
 use Rattle.sound_rows.proofs.numbers.objects_in_range.Given as goal
 
 abbrev pub invariant-loop-o : goal.invariant-loop-o
-invariant-loop-o l = (all_below l.o (object_ranged l.header (object_at l.objects)) ≡ true) × (l.o ≤ l.made) × (l.p ≡ places_below (object_at l.objects) l.o) × (l.p ≤ 32 * l.o)
-
-abbrev pub decreases-loop-o : goal.decreases-loop-o
-decreases-loop-o l = l.made - l.o
+invariant-loop-o l = (all_below l.o (object_ranged l.header (object_at l.objects)) ≡ true) × (l.p ≡ places_below (object_at l.objects) l.o) × (l.p ≤ 32 * l.o)

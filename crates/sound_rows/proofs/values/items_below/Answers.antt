@@ -1,18 +1,12 @@
-use mathlib.Core.Bool.{true}
-use Prim.Native.Nat.{◌-◌}
-use native.Mathlib.Omega.{arith}
-use borrow.Author.Tests.{lt-ltb, le-ltb}
-use Rattle.sound_words.specs.Loops.{all_none, all_turn, all_fails, all_end}
+use Rattle.std.proofs.Common.{refl, rules}
+use Rattle.sound_words.specs.Loops.{all_called}
+use Rattle.sound_rows.specs.ValueLaws.{items-read}
+use Rattle.std.proofs.iter.Serving.{serving}
+use Rattle.rows.specs.TableLaws.{places_fit}
 use Rattle.sound_rows.proofs.values.items_below.Goals as goal
 
-pub loop-k-init : goal.loop-k-init
-loop-k-init c = (all_none _, omega arith)
-
-pub loop-k-preserved : goal.loop-k-preserved
-loop-k-preserved c = (all_turn _ c.loop-k.k (rw (← c.item_at-item.ensures, lt-ltb _ _ c.if-item-g.true)) c.loop-k.invariant.0, omega arith)
-
-pub returns-else-item-g : goal.returns-else-item-g
-returns-else-item-g c = all_fails _ c.loop-k.k _ c.loop-k-test.true (rw (← c.item_at-item.ensures, le-ltb _ _ c.if-item-g.false))
+pub all-requires-clause-callable : goal.all-requires-clause-callable
+all-requires-clause-callable c = grind (serving, (places_fit c.args.objects.now c.args.g.0 c.first_at.ensures c.count_at-count.ensures).within)
 
 pub returns : goal.returns
-returns c = all_end _ c.loop-k.k _ (omega arith) c.loop-k-test.false c.loop-k.invariant.0
+returns c = items-read _ _ _ c.first_at.ensures c.count_at-count.ensures (all_called _ c.all.ensures.ran refl (λ x b q k. search rules))
