@@ -42,20 +42,6 @@ pub front_fits : (q : ReadyQueue) → (front_of q).0 < task_limit
 unfolding front_of
 front_fits q = mod-lt (get_or q.ids 0 0) (omega arith)
 
--- what is no coroutine has no function to start, and no coroutine that is not new has one
-pub no_new_function : (x : Object) → ((f : ℕ) (s : CoroutineState) → x ≡ Object.Coroutine f s → ⊥) → new_function x ≡ none
-unfolding new_function
-no_new_function Object.Unmade h = refl
-no_new_function (Object.Coroutine f s) h = absurd (h f s refl)
-no_new_function (Object.ExternalFuture c s) h = refl
-no_new_function (Object.GatherFuture i n s) h = refl
-
-pub new_function-none : (f : ℕ) (s : CoroutineState) → (s ≡ CoroutineState.New → ⊥) → new_function (Object.Coroutine f s) ≡ none
-unfolding new_function
-new_function-none f CoroutineState.New h = absurd (h refl)
-new_function-none f CoroutineState.Running h = refl
-new_function-none f CoroutineState.Completed h = refl
-
 -- a task is run, or the host has control: nothing is logged
 module _ (s : Store) {ts os ps : List ℕ} {q : ReadyQueue} (c : Control) where
   run-logs : (t : ℕ) (h : How) → switched_of (store_of ts os ps q s.log) c ≡ run s t h

@@ -14,6 +14,7 @@ use exec_deliver::task::queue_woken;
 use queue::ReadyQueue;
 use scheduler_states::states::remove_task;
 
+#[tactic(auto, using(crate::proofs::NewFunction::no_new_function, crate::proofs::NewFunction::no_function_unless_new), unfolding(machine::specs::Events::new_function))]
 fn new_function(objects: &Objects, c: HeapId) -> Option<u32>
     requires { c.0 < object_limit }
     ensures { result ≡ function_of (new_function (object_at objects.now c.0)) }
