@@ -12,13 +12,8 @@ pub fn read_full(mut stdin: Stdin, buf: &mut [u8]) -> usize
     let mut done: usize = 0;
     while done < buf.len() {
         match stdin.read(&mut buf[done..]) {
-            Ok(n) => {
-                if n == 0 {
-                    return done;
-                }
-                done += n;
-            }
-            Err(_) => return done,
+            Ok(0) | Err(_) => break,
+            Ok(n) => done += n,
         }
     }
     done
