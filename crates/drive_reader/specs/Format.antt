@@ -1,14 +1,13 @@
 -- The records of document 01's driver, as bytes (its section "The driver"). Numbers are little-endian.
+use Rattle.std.specs.Prelude.{Option, None, Some}
 use Rattle.std.specs.Prelude.{ℕ, ◌+◌, ◌-◌, ◌*◌, min, List, eqb, leb, ltb, length}
-use Rattle.std.proofs.Math.Option.{Option, none, some}
 use Rattle.asyncio.specs.Numbers.{heap_id}
 use Rattle.asyncio.specs.States.{pick}
 use Rattle.asyncio.specs.declared.Value.{Value}
 use Rattle.asyncio.specs.Options.{OptionValue}
-use Rattle.std.specs.Prelude.{None, Some}
 use Rattle.endian.specs.Endian.{le1, le2, le4, le8}
 use Rattle.drive_reader.specs.declared.Record.{Record}
-use Rattle.drive_reader.specs.declared.Parsed.{Parsed}
+use Rattle.drive_reader.specs.Parsed.{Parsed, at_end, no_record, a_record}
 
 -- the mark hex C3 59 as a number of two bytes: hex 59C3
 abbrev pub mark : ℕ
@@ -33,8 +32,8 @@ value_at s at =
 
 -- the record that a value makes; none without a value
 abbrev pub with_value : (Value → Record) → OptionValue → Option Record
-with_value f None = none
-with_value f (Some v) = some (f v)
+with_value f None = None
+with_value f (Some v) = Some (f v)
 
 -- ---- records: the mark in bytes 0 and 1, the kind in byte 2, and what the kind has from byte 3 on
 
@@ -61,41 +60,41 @@ unfoldable pub pending_at : List ℕ → ℕ → Option Record
 pending_at s at =
     let call = le4 s (at + 3) in
     let flag = le1 s (at + 7) in
-    pick (eqb flag 0) (some (Record.Pending call None))
-    (pick (eqb flag 1) (with_value (λ (v : Value). Record.Pending call (Some v)) (value_at s (at + 8))) none)
+    pick (eqb flag 0) (Some (Record.Pending call None))
+    (pick (eqb flag 1) (with_value (λ (v : Value). Record.Pending call (Some v)) (value_at s (at + 8))) None)
 
 -- What a record of a kind says, if all its bytes are there; none for a kind that there is not, a flag or a tag above 1. What a result
 -- holds is not looked at.
 unfoldable pub contents : List ℕ → ℕ → ℕ → Option Record
 contents s at kind =
-    pick (eqb kind 1) (some (Record.Coroutine (le4 s (at + 3))))
-    (pick (eqb kind 2) (some Record.Call)
+    pick (eqb kind 1) (Some (Record.Coroutine (le4 s (at + 3))))
+    (pick (eqb kind 2) (Some Record.Call)
     (pick (eqb kind 3) (pending_at s at)
     (pick (eqb kind 4) (with_value Record.Settled (value_at s (at + 3)))
-    (pick (eqb kind 5) (some (Record.Gather (at + 4) (le1 s (at + 3))))
-    (pick (eqb kind 6) (some (Record.Await (le2 s (at + 3))))
+    (pick (eqb kind 5) (Some (Record.Gather (at + 4) (le1 s (at + 3))))
+    (pick (eqb kind 6) (Some (Record.Await (le2 s (at + 3))))
     (pick (eqb kind 7) (with_value Record.Complete (value_at s (at + 3)))
-    (pick (eqb kind 8) (some (Record.Fail (le4 s (at + 3))))
-    (pick (eqb kind 9) (some (Record.Results (at + 4) (le1 s (at + 3))))
-    (pick (eqb kind 10) (some Record.Resume)
-    (pick (eqb kind 11) (some (Record.Cancel (le2 s (at + 3))))
-    (pick (eqb kind 12) (some (Record.Show (le2 s (at + 3))))
-    (pick (eqb kind 13) (some Record.Eager) none))))))))))))
+    (pick (eqb kind 8) (Some (Record.Fail (le4 s (at + 3))))
+    (pick (eqb kind 9) (Some (Record.Results (at + 4) (le1 s (at + 3))))
+    (pick (eqb kind 10) (Some Record.Resume)
+    (pick (eqb kind 11) (Some (Record.Cancel (le2 s (at + 3))))
+    (pick (eqb kind 12) (Some (Record.Show (le2 s (at + 3))))
+    (pick (eqb kind 13) (Some Record.Eager) None))))))))))))
 
 -- a record and the place behind it; refused without a record
 abbrev pub found : Option Record → ℕ → Parsed
-found none next = Parsed.Refused
-found (some r) next = Parsed.Record r next
+found None next = no_record
+found (Some r) next = a_record r next
 
 -- the record of a kind: refused unless all its bytes are there
 unfoldable pub parse_kind : List ℕ → ℕ → ℕ → Parsed
 parse_kind s at kind =
     let n = size kind (le1 s (at + 3)) in
-    pick (leb n (left s at)) (found (contents s at kind) (at + n)) Parsed.Refused
+    pick (leb n (left s at)) (found (contents s at kind) (at + n)) no_record
 
 -- The record at a place: the end if no byte is left; refused without mark and kind byte, or with another mark.
 unfoldable pub parse : List ℕ → ℕ → Parsed
 parse s at =
-    pick (eqb (left s at) 0) Parsed.End
-    (pick (ltb (left s at) 3) Parsed.Refused
-    (pick (eqb (le2 s at) mark) (parse_kind s at (le1 s (at + 2))) Parsed.Refused))
+    pick (eqb (left s at) 0) at_end
+    (pick (ltb (left s at) 3) no_record
+    (pick (eqb (le2 s at) mark) (parse_kind s at (le1 s (at + 2))) no_record))

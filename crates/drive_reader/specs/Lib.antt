@@ -1,6 +1,9 @@
+pub mod Parsed
+pub mod Kinds
 pub mod Format
 pub mod Items
 pub mod FormatLaws
+pub mod KindLaws
 pub mod ItemLaws
 pub mod RecordNumbers
 pub mod ParseLaws

@@ -1,11 +1,11 @@
 -- Records as bytes, and what they are read as: the worked example of document 01, and what its refusal 11 names. (RecordCasesHold proves
 -- the whole table.)
+use Rattle.std.specs.Prelude.{None, Some}
 use Rattle.std.specs.Prelude.{ℕ, List, [], ◌∷◌, ◌++◌, replicate}
 use Rattle.asyncio.specs.Numbers.{heap_id}
 use Rattle.asyncio.specs.declared.Value.{Value}
-use Rattle.std.specs.Prelude.{None, Some}
 use Rattle.drive_reader.specs.declared.Record.{Record}
-use Rattle.drive_reader.specs.declared.Parsed.{Parsed}
+use Rattle.drive_reader.specs.Parsed.{Parsed, at_end, no_record, a_record}
 use Rattle.drive_reader.specs.Format.{parse}
 
 -- bytes, a place in them, and what is read there
@@ -53,19 +53,19 @@ worked_example =
 
 -- a record of the worked example
 abbrev example : ℕ → Record → ℕ → Case
-example at r next = record { bytes = worked_example; at = at; reads = Parsed.Record r next }
+example at r next = record { bytes = worked_example; at = at; reads = a_record r next }
 
 -- bytes that are one record
 abbrev one : List ℕ → Record → ℕ → Case
-one s r next = record { bytes = s; at = 0; reads = Parsed.Record r next }
+one s r next = record { bytes = s; at = 0; reads = a_record r next }
 
 -- bytes that are refused
 abbrev refused : List ℕ → Case
-refused s = record { bytes = s; at = 0; reads = Parsed.Refused }
+refused s = record { bytes = s; at = 0; reads = no_record }
 
 -- a place where no byte is left
 abbrev ends : List ℕ → ℕ → Case
-ends s at = record { bytes = s; at = at; reads = Parsed.End }
+ends s at = record { bytes = s; at = at; reads = at_end }
 
 unfoldable pub cases : List Case
 cases =

@@ -2,7 +2,7 @@
 use Rattle.std.specs.Prelude.{◌≡◌, refl, ℕ, [], ◌∷◌, map, get_or}
 use Rattle.std.proofs.Common.{sym, ◌∙◌}
 use Rattle.std.proofs.Math.ListN.{get_or-map}
-use Rattle.drive_reader.specs.declared.Parsed.{Parsed}
+use Rattle.drive_reader.specs.Parsed.{at_end}
 use Rattle.drive_reader.specs.Format.{value_at, size, pending_at, contents, parse_kind, parse}
 use Rattle.drive_reader.specs.Items.{items_at}
 use Rattle.drive_reader.specs.RecordCases.{Case, seen, expected, worked_example, cases}
@@ -13,7 +13,7 @@ all_rows = refl
 
 -- behind the table: no bytes, and the end
 unfoldable pub no_row : Case
-no_row = record { bytes = []; at = 0; reads = Parsed.End }
+no_row = record { bytes = []; at = 0; reads = at_end }
 
 no_row_holds : seen no_row ≡ expected no_row
 unfolding no_row seen expected parse

@@ -1,20 +1,17 @@
 -- What document 01 calls each answer of the reader: its number in the table of refusals (0: none), and of a record its kind and what stands
 -- in it, in the record's order.
+use Rattle.std.specs.Prelude.{None, Some, Ok, Err}
 use Rattle.std.specs.Prelude.{◌≡◌, ℕ, List, [], ◌∷◌}
 use Rattle.std.proofs.Common.{ap}
-use denote.Triple.Both.{Both}
 use Rattle.asyncio.specs.Layout.{value_numbers}
-use Rattle.asyncio.specs.declared.Value.{Value}
-use Rattle.std.specs.Prelude.{None, Some}
 use Rattle.drive_reader.specs.declared.Record.{Record}
-use Rattle.drive_reader.specs.declared.Parsed.{Parsed}
+use Rattle.drive_reader.specs.Parsed.{Parsed}
 use Rattle.drive_reader.specs.Format.{parse}
 
 -- refusal 11: "wrong mark, unknown kind, short record, flag or, outside results, tag above 1"
 unfoldable pub parse_refusal : Parsed → ℕ
-parse_refusal Parsed.End = 0
-parse_refusal Parsed.Refused = 11
-parse_refusal (Parsed.Record r next) = 0
+parse_refusal (Ok p) = 0
+parse_refusal (Err e) = 11
 
 unfoldable pub record_kind : Record → ℕ
 record_kind (Record.Coroutine f) = 1
@@ -57,14 +54,14 @@ pub record ParsedAs : Type 0 where
 
 -- by what was read: of a record its kind and its values
 unfoldable pub parsed_kind : Parsed → ℕ
-parsed_kind Parsed.End = 0
-parsed_kind Parsed.Refused = 0
-parsed_kind (Parsed.Record r next) = record_kind r
+parsed_kind (Ok None) = 0
+parsed_kind (Ok (Some f)) = record_kind f.what
+parsed_kind (Err e) = 0
 
 unfoldable pub parsed_values : Parsed → List ℕ
-parsed_values Parsed.End = []
-parsed_values Parsed.Refused = []
-parsed_values (Parsed.Record r next) = record_numbers r
+parsed_values (Ok None) = []
+parsed_values (Ok (Some f)) = record_numbers f.what
+parsed_values (Err e) = []
 
 -- an answer of the reader as its caller gets it
 abbrev pub parsed_as : Parsed → ParsedAs

@@ -1,10 +1,10 @@
 -- A part of the input is enough to read a record. What was read stays the same when bytes follow, and so does a refusal where as many bytes
 -- are left as a record can have; without the bytes in front the same is read, at places counted from the new start.
+use Rattle.std.specs.Prelude.{Option, None, Some}
 use Rattle.std.specs.Prelude.{◌≡◌, true, false, List, ◌++◌, eqb, leb, ltb, drop}
 use Rattle.std.proofs.Math.Path.{refl, ap}
 use Rattle.std.proofs.Common.{◌∙◌, length-drop, get_or-drop}
 use Rattle.std.proofs.Math.Bool.{Bool}
-use Rattle.std.proofs.Math.Option.{Option, none, some}
 use Prim.Native.Nat.{ℕ, ◌+◌, ◌-◌, ◌≤◌, ◌<◌}
 use native.Mathlib.Omega.{arith}
 use Rattle.std.proofs.Math.ListN.{length, length-append, get_or-append}
@@ -13,10 +13,9 @@ use Rattle.asyncio.specs.RangeLaws.{pick_has}
 use Rattle.asyncio.specs.States.{pick}
 use Rattle.asyncio.specs.declared.Value.{Value}
 use Rattle.asyncio.specs.Options.{OptionValue}
-use Rattle.std.specs.Prelude.{None, Some}
 use Rattle.endian.specs.Endian.{le1, le2, le4, le8}
 use Rattle.drive_reader.specs.declared.Record.{Record}
-use Rattle.drive_reader.specs.declared.Parsed.{Parsed}
+use Rattle.drive_reader.specs.Parsed.{Parsed, at_end, no_record, a_record}
 use Rattle.drive_reader.specs.Format.{mark, value_at, with_value, size, pending_at, contents, found, parse_kind, parse}
 use Rattle.drive_reader.specs.Windows.{record_limit, move_record, move}
 use Rattle.drive_reader.specs.FormatLaws.{size_of_kind}
@@ -47,18 +46,18 @@ module _ (s t : List ℕ) where
   unfolding size contents
   same-contents at kind n h =
       let P : Option Record → Option Record → Type 0 = λ o q. o ≡ q in
-      either_kind P kind 1 (λ e. ap (λ (x : ℕ). some (Record.Coroutine x)) (same4 (at + 3) (omega (arith, size_of_kind 1 n e h))))
+      either_kind P kind 1 (λ e. ap (λ (x : ℕ). Some (Record.Coroutine x)) (same4 (at + 3) (omega (arith, size_of_kind 1 n e h))))
       (either_kind P kind 2 (λ e. refl)
       (either_kind P kind 3 (λ e. same-pending at (omega (arith, size_of_kind 3 n e h)))
       (either_kind P kind 4 (λ e. ap (with_value Record.Settled) (same_value (at + 3) (omega (arith, size_of_kind 4 n e h))))
-      (either_kind P kind 5 (λ e. ap (λ (x : ℕ). some (Record.Gather (at + 4) x)) (same1 (at + 3) (omega (arith, size_of_kind 5 n e h))))
-      (either_kind P kind 6 (λ e. ap (λ (x : ℕ). some (Record.Await x)) (same2 (at + 3) (omega (arith, size_of_kind 6 n e h))))
+      (either_kind P kind 5 (λ e. ap (λ (x : ℕ). Some (Record.Gather (at + 4) x)) (same1 (at + 3) (omega (arith, size_of_kind 5 n e h))))
+      (either_kind P kind 6 (λ e. ap (λ (x : ℕ). Some (Record.Await x)) (same2 (at + 3) (omega (arith, size_of_kind 6 n e h))))
       (either_kind P kind 7 (λ e. ap (with_value Record.Complete) (same_value (at + 3) (omega (arith, size_of_kind 7 n e h))))
-      (either_kind P kind 8 (λ e. ap (λ (x : ℕ). some (Record.Fail x)) (same4 (at + 3) (omega (arith, size_of_kind 8 n e h))))
-      (either_kind P kind 9 (λ e. ap (λ (x : ℕ). some (Record.Results (at + 4) x)) (same1 (at + 3) (omega (arith, size_of_kind 9 n e h))))
+      (either_kind P kind 8 (λ e. ap (λ (x : ℕ). Some (Record.Fail x)) (same4 (at + 3) (omega (arith, size_of_kind 8 n e h))))
+      (either_kind P kind 9 (λ e. ap (λ (x : ℕ). Some (Record.Results (at + 4) x)) (same1 (at + 3) (omega (arith, size_of_kind 9 n e h))))
       (either_kind P kind 10 (λ e. refl)
-      (either_kind P kind 11 (λ e. ap (λ (x : ℕ). some (Record.Cancel x)) (same2 (at + 3) (omega (arith, size_of_kind 11 n e h))))
-      (either_kind P kind 12 (λ e. ap (λ (x : ℕ). some (Record.Show x)) (same2 (at + 3) (omega (arith, size_of_kind 12 n e h))))
+      (either_kind P kind 11 (λ e. ap (λ (x : ℕ). Some (Record.Cancel x)) (same2 (at + 3) (omega (arith, size_of_kind 11 n e h))))
+      (either_kind P kind 12 (λ e. ap (λ (x : ℕ). Some (Record.Show x)) (same2 (at + 3) (omega (arith, size_of_kind 12 n e h))))
       (either_kind P kind 13 (λ e. refl) refl))))))))))))
 
 -- ---- sizes
@@ -134,7 +133,7 @@ module _ (s t : List ℕ) (at : ℕ) where
       )
 
   -- A record that was read is read whatever follows.
-  pub parse_longer : {r : Record} {next : ℕ} → parse s at ≡ Parsed.Record r next → parse (s ++ t) at ≡ Parsed.Record r next
+  pub parse_longer : {r : Record} {next : ℕ} → parse s at ≡ a_record r next → parse (s ++ t) at ≡ a_record r next
   parse_longer e =
       let i = parse_inside s at e in
       same-parse (omega (arith, i.head, i.within)) (omega (arith, i.size_is, i.head, i.within)) ∙ e
@@ -147,8 +146,8 @@ module _ (s t : List ℕ) (at : ℕ) where
 
 -- a record that was moved, if there is one
 abbrev move_some : ℕ → Option Record → Option Record
-move_some k none = none
-move_some k (some r) = some (move_record k r)
+move_some k None = None
+move_some k (Some r) = Some (move_record k r)
 
 module _ (s : List ℕ) (k : ℕ) where
   drop1 : (p q : ℕ) → q ≡ k + p → le1 s q ≡ le1 (drop k s) p
@@ -170,7 +169,7 @@ module _ (s : List ℕ) (k : ℕ) where
   -- a value's record has no places
   move-value : (f : Value → Record) (x : OptionValue) → ((v : Value) → f v ≡ move_record k (f v)) → with_value f x ≡ move_some k (with_value f x)
   move-value f None h = refl
-  move-value f (Some v) h = ap (λ (r : Record). some r) (h v)
+  move-value f (Some v) h = ap (λ (r : Record). Some r) (h v)
 
   drop-pending : (at : ℕ) → pending_at s (k + at) ≡ move_some k (pending_at (drop k s) at)
   unfolding pending_at move_record
@@ -179,7 +178,7 @@ module _ (s : List ℕ) (k : ℕ) where
       (by (eqb (le1 (drop k s) (at + 7)) 0) (eqb (le1 (drop k s) (at + 7)) 1) (value_at (drop k s) (at + 8)))
     where
       answer : Bool → Bool → OptionValue → Option Record
-      answer a b x = pick a (some (Record.Pending (le4 (drop k s) (at + 3)) None)) (pick b (with_value (λ (v : Value). Record.Pending (le4 (drop k s) (at + 3)) (Some v)) x) none)
+      answer a b x = pick a (Some (Record.Pending (le4 (drop k s) (at + 3)) None)) (pick b (with_value (λ (v : Value). Record.Pending (le4 (drop k s) (at + 3)) (Some v)) x) None)
 
       by : (a b : Bool) (x : OptionValue) → answer a b x ≡ move_some k (answer a b x)
       by true b x = refl
@@ -192,18 +191,18 @@ module _ (s : List ℕ) (k : ℕ) where
       let P : Option Record → Option Record → Type 0 = λ o q. o ≡ move_some k q in
       let e3 : k + at + 3 ≡ k + (at + 3) = omega arith in
       let e4 : k + at + 4 ≡ k + (at + 4) = omega arith in
-      either_kind P kind 1 (λ e. ap (λ (x : ℕ). some (Record.Coroutine x)) (drop4 (at + 3) (k + at + 3) e3))
+      either_kind P kind 1 (λ e. ap (λ (x : ℕ). Some (Record.Coroutine x)) (drop4 (at + 3) (k + at + 3) e3))
       (either_kind P kind 2 (λ e. refl)
       (either_kind P kind 3 (λ e. drop-pending at)
       (either_kind P kind 4 (λ e. ap (with_value Record.Settled) (drop-value (at + 3) (k + at + 3) e3) ∙ move-value Record.Settled (value_at (drop k s) (at + 3)) (λ v. refl))
       (either_kind P kind 5 (λ e. rw (e4, drop1 (at + 3) (k + at + 3) e3))
-      (either_kind P kind 6 (λ e. ap (λ (x : ℕ). some (Record.Await x)) (drop2 (at + 3) (k + at + 3) e3))
+      (either_kind P kind 6 (λ e. ap (λ (x : ℕ). Some (Record.Await x)) (drop2 (at + 3) (k + at + 3) e3))
       (either_kind P kind 7 (λ e. ap (with_value Record.Complete) (drop-value (at + 3) (k + at + 3) e3) ∙ move-value Record.Complete (value_at (drop k s) (at + 3)) (λ v. refl))
-      (either_kind P kind 8 (λ e. ap (λ (x : ℕ). some (Record.Fail x)) (drop4 (at + 3) (k + at + 3) e3))
+      (either_kind P kind 8 (λ e. ap (λ (x : ℕ). Some (Record.Fail x)) (drop4 (at + 3) (k + at + 3) e3))
       (either_kind P kind 9 (λ e. rw (e4, drop1 (at + 3) (k + at + 3) e3))
       (either_kind P kind 10 (λ e. refl)
-      (either_kind P kind 11 (λ e. ap (λ (x : ℕ). some (Record.Cancel x)) (drop2 (at + 3) (k + at + 3) e3))
-      (either_kind P kind 12 (λ e. ap (λ (x : ℕ). some (Record.Show x)) (drop2 (at + 3) (k + at + 3) e3))
+      (either_kind P kind 11 (λ e. ap (λ (x : ℕ). Some (Record.Cancel x)) (drop2 (at + 3) (k + at + 3) e3))
+      (either_kind P kind 12 (λ e. ap (λ (x : ℕ). Some (Record.Show x)) (drop2 (at + 3) (k + at + 3) e3))
       (either_kind P kind 13 (λ e. refl) refl))))))))))))
 
   drop-left : (at : ℕ) → length s - (k + at) ≡ length (drop k s) - at
@@ -211,8 +210,8 @@ module _ (s : List ℕ) (k : ℕ) where
 
   move-found : (o : Option Record) (n n' : ℕ) → n' ≡ k + n → found (move_some k o) n' ≡ move k (found o n)
   unfolding move
-  move-found none n n' e = refl
-  move-found (some r) n n' e = ap (λ (m : ℕ). Parsed.Record (move_record k r) m) e
+  move-found None n n' e = refl
+  move-found (Some r) n n' e = ap (λ (m : ℕ). a_record (move_record k r) m) e
 
   -- an answer that is chosen by a test is moved as each of the two
   move-pick : (b : Bool) (p' q' : Parsed) {p q : Parsed} → p ≡ move k p' → q ≡ move k q' → pick b p q ≡ move k (pick b p' q')
@@ -224,19 +223,19 @@ module _ (s : List ℕ) (k : ℕ) where
   drop-kind at kind =
       let m : ℕ = size kind (le1 (drop k s) (at + 3)) in
       rw (drop1 (at + 3) (k + at + 3) (omega arith), drop-left at, drop-contents at kind)
-      (move-pick (leb m (length (drop k s) - at)) (found (contents (drop k s) at kind) (at + m)) Parsed.Refused (move-found (contents (drop k s) at kind) (at + m) (k + at + m) (omega arith)) refl)
+      (move-pick (leb m (length (drop k s) - at)) (found (contents (drop k s) at kind) (at + m)) no_record (move-found (contents (drop k s) at kind) (at + m) (k + at + m) (omega arith)) refl)
 
   -- The record at a place is the record of the rest at the place counted from there.
   pub parse-rest : (at : ℕ) → parse s (k + at) ≡ move k (parse (drop k s) at)
   unfolding parse move
   parse-rest at =
       rw (drop-left at, drop2 at (k + at) refl, drop1 (at + 2) (k + at + 2) (omega arith), drop-kind at (le1 (drop k s) (at + 2)))
-      (move-pick (eqb (length (drop k s) - at) 0) Parsed.End short refl
-      (move-pick (ltb (length (drop k s) - at) 3) Parsed.Refused marked refl
-      (move-pick (eqb (le2 (drop k s) at) mark) (parse_kind (drop k s) at (le1 (drop k s) (at + 2))) Parsed.Refused refl refl)))
+      (move-pick (eqb (length (drop k s) - at) 0) at_end short refl
+      (move-pick (ltb (length (drop k s) - at) 3) no_record marked refl
+      (move-pick (eqb (le2 (drop k s) at) mark) (parse_kind (drop k s) at (le1 (drop k s) (at + 2))) no_record refl refl)))
     where
       marked : Parsed
-      marked = pick (eqb (le2 (drop k s) at) mark) (parse_kind (drop k s) at (le1 (drop k s) (at + 2))) Parsed.Refused
+      marked = pick (eqb (le2 (drop k s) at) mark) (parse_kind (drop k s) at (le1 (drop k s) (at + 2))) no_record
 
       short : Parsed
-      short = pick (ltb (length (drop k s) - at) 3) Parsed.Refused marked
+      short = pick (ltb (length (drop k s) - at) 3) no_record marked

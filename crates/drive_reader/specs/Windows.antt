@@ -1,7 +1,8 @@
 -- A part of the input, held at a time: how much of it is enough, and its places.
+use Rattle.std.specs.Prelude.{None, Some, Ok, Err}
 use Rattle.std.specs.Prelude.{ℕ, ◌+◌}
 use Rattle.drive_reader.specs.declared.Record.{Record}
-use Rattle.drive_reader.specs.declared.Parsed.{Parsed}
+use Rattle.drive_reader.specs.Parsed.{Parsed, at_end, no_record, a_record}
 
 -- the most bytes that a record has: results, 255 of them
 abbrev pub record_limit : ℕ
@@ -25,6 +26,6 @@ move_record k Record.Eager = Record.Eager
 
 -- the same of an answer
 unfoldable pub move : ℕ → Parsed → Parsed
-move k Parsed.End = Parsed.End
-move k Parsed.Refused = Parsed.Refused
-move k (Parsed.Record r next) = Parsed.Record (move_record k r) (k + next)
+move k (Ok None) = at_end
+move k (Ok (Some f)) = a_record (move_record k f.what) (k + f.next)
+move k (Err e) = no_record
