@@ -14,7 +14,6 @@
 ghost use Rattle.std.specs.Prelude.{◌≤◌, length};
 
 mod answers; // what an answer prints
-mod compare; // what a refused call changed
 mod entries; // an entry of the library, by its number
 mod commands; // the commands
 mod store; // a store as one value, and its damages

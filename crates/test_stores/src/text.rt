@@ -1,79 +1,54 @@
-// Bytes and numbers of a text.
-ghost use Rattle.std.specs.Prelude.{◌<◌, ◌≤◌, length};
+// Numbers, commands and lines of a text. Each is read at the front, and what stands behind it is handed on.
+ghost use Rattle.std.specs.Prelude.{◌<◌, ◌≤◌, length, IfSome};
 
-// A number in decimal, and the place behind it.
-#[derive(Drop)]
-pub struct Number {
-    pub value: u64,
-    pub next: usize,
-}
-
-pub(crate) fn read_number(text: &[u8], at: usize) -> Number
-    ensures { at ≤ result.next }
+// A number in decimal.
+fn read_number(text: &[u8]) -> (u64, &[u8])
+    ensures { length result.1.now ≤ length text.now }
 {
     let mut value: u64 = 0;
-    let mut i = at;
-    while i < text.len() {
+    for i in 0..text.len() {
         let b = text[i];
-        if b < 48 {
-            return Number { value, next: i };
+        if !b.is_ascii_digit() {
+            return (value, &text[i..]);
         }
-        if 57 < b {
-            return Number { value, next: i };
-        }
-        value = value % 100000000000000000 * 10 + (b - 48) as u64;
-        i += 1;
+        value = value % 100000000000000000 * 10 + (b - b'0') as u64;
     }
-    Number { value, next: i }
+    (value, &[])
 }
 
-// A letter and up to two numbers, and the place behind them.
-#[derive(Clone, Copy)]
+// A letter and up to two numbers.
+#[derive(Clone, Copy, PartialEq, Eq, Debug)]
 pub struct Command {
     pub letter: u8,
     pub a: u64,
     pub b: u64,
-    pub next: usize,
 }
 
-pub(crate) fn read_command(text: &[u8], at: usize) -> Command
-    requires { at < length text.now }
-    ensures { at < result.next }
+pub(crate) fn read_command(text: &[u8]) -> Option<(Command, &[u8])>
+    ensures { IfSome result (λ r. length r.1.now < length text.now) }
 {
-    let letter = text[at];
-    let first = read_number(text, at + 1);
-    let a = first.value;
-    let next = first.next;
-    if next < text.len() {
-        if text[next] == 61 {
-            let second = read_number(text, next + 1);
-            return Command {
-                letter,
-                a,
-                b: second.value,
-                next: second.next,
-            };
-        }
-    }
-    Command {
-        letter,
-        a,
-        b: 0,
-        next,
-    }
+    let [letter, behind @ ..] = text else {
+        return None;
+    };
+    let (a, rest) = read_number(behind);
+    let (b, rest) = match rest {
+        [b'=', behind @ ..] => read_number(behind),
+        _ => (0, rest),
+    };
+    Some((
+        Command {
+            letter: *letter,
+            a,
+            b,
+        },
+        rest,
+    ))
 }
 
-// The place of the first such byte from `at` on, or the end.
-pub(crate) fn find(text: &[u8], at: usize, byte: u8) -> usize
-    requires { at ≤ length text.now }
-    ensures { (at ≤ result) × (result ≤ length text.now) }
+// What stands before the first such byte, and from there on, the byte too: nothing, where there is none.
+pub(crate) fn split_before(text: &[u8], byte: u8) -> (&[u8], &[u8])
+    ensures { length result.1.now ≤ length text.now }
 {
-    let mut i = at;
-    while i < text.len() {
-        if text[i] == byte {
-            return i;
-        }
-        i += 1;
-    }
-    i
+    let end = text.iter().position(|&b| b == byte).unwrap_or(text.len());
+    text.split_at(end)
 }
