@@ -18,6 +18,7 @@ use Rattle.exec_switch.specs.Answer.{answer_of, stepped_of}
 use Rattle.exec_switch.specs.LogLaws.{same_step}
 use Rattle.exec_switch.specs.declared.control.Control.{Control}
 use Rattle.exec_switch.specs.declared.answer.Answer.{Answer}
+use Rattle.exec_switch.specs.declared.answer.Refusal.{Refusal}
 use Rattle.step_checks.specs.Checked.{checked}
 use Rattle.step_checks.specs.CheckedLaws.{met, unmet}
 use Rattle.step_checks.specs.Lent.{are_slices, is_wait, lent_of}
@@ -98,7 +99,7 @@ lent_from x cs = lent_as x.store (written x.answer cs) x.answer
 
 -- refusal 2, on lent memory
 refused_lent : (s : Store) (cs : List ℕ) → lent_from (record { store = forget s; answer = machine.Answer.refused 2 }) cs
-    ≡ lent_of (store_of s.tasks s.objects s.places s.queue []) cs (Answer.Refused 2) 0
+    ≡ lent_of (store_of s.tasks s.objects s.places s.queue []) cs (Answer.Refused Refusal.NotSound) 0
 unfolding written write_calls forget answer_calls
 refused_lent s cs = refl
 
@@ -110,7 +111,7 @@ module _ (ts os ps : List ℕ) (q : ReadyQueue) (cs : List ℕ) (l : List LogEnt
   clean = store_of ts os ps q []
 
   module _ {b : Bool} (g : b ≡ (are_slices (length ts) (length os) (length ps) && leb object_limit (length cs))) where
-    pub wrong_length : b ≡ false → lent_of (store_of ts os ps q (lent_step given cs e).store.log) cs (Answer.Refused 1) 0 ≡ lent_step given cs e
+    pub wrong_length : b ≡ false → lent_of (store_of ts os ps q (lent_step given cs e).store.log) cs (Answer.Refused Refusal.WrongLength) 0 ≡ lent_step given cs e
     unfolding lent_step lengths_right slices_right lent_by answer_calls
     wrong_length i = rw (sym g ∙ i)
 
@@ -119,10 +120,10 @@ module _ (ts os ps : List ℕ) (q : ReadyQueue) (cs : List ℕ) (l : List LogEnt
       unfolding lent_step lengths_right slices_right lent_by
       right = rw (sym g ∙ i)
 
-      pub not_sound : u ≡ false → lent_of (store_of ts os ps q (lent_step given cs e).store.log) cs (Answer.Refused 2) 0 ≡ lent_step given cs e
+      pub not_sound : u ≡ false → lent_of (store_of ts os ps q (lent_step given cs e).store.log) cs (Answer.Refused Refusal.NotSound) 0 ≡ lent_step given cs e
       not_sound k =
-          let r : lent_step given cs e ≡ lent_of clean cs (Answer.Refused 2) 0 = right ∙ ap (λ (z : Step). lent_from z cs) (step_unsound given e (sym h ∙ k)) ∙ refused_lent given cs in
-          ap (λ (x : Lent). lent_of (store_of ts os ps q x.store.log) cs (Answer.Refused 2) 0) r ∙ sym r
+          let r : lent_step given cs e ≡ lent_of clean cs (Answer.Refused Refusal.NotSound) 0 = right ∙ ap (λ (z : Step). lent_from z cs) (step_unsound given e (sym h ∙ k)) ∙ refused_lent given cs in
+          ap (λ (x : Lent). lent_of (store_of ts os ps q x.store.log) cs (Answer.Refused Refusal.NotSound) 0) r ∙ sym r
 
       pub steps_on : u ≡ true → {ts' os' ps' cs' : List ℕ} {q' : ReadyQueue} {n : ℕ} (a : Answer)
           → stepped_of (store_of ts' os' ps' q' (checked clean e).store.log) a ≡ checked clean e

@@ -1,5 +1,5 @@
 -- The ways through each event, in the shape of what the code knows there.
-use Rattle.std.specs.Prelude.{◌≡◌, Bool, false, not, ◌||◌, eqb, leb, length, None, Some}
+use Rattle.std.specs.Prelude.{◌≡◌, Bool, false, not, ◌||◌, eqb, leb, length, None, Some, Result, Ok, Err, IsErrAnd}
 use Rattle.std.proofs.Math.Path.{refl, sym, ap}
 use Rattle.std.proofs.Common.{subst, ◌∙◌, true≢false, arith, eq-eqb, ne_eqb, le-leb, leb-false, lt-ltb, le-ltb, ltb-true, ltb-false}
 use Rattle.std.proofs.Math.Bool.{true}
@@ -30,29 +30,35 @@ use Rattle.machine.specs.Store.{Store, LogEntry, store_of, task, object, header,
 use Rattle.machine.specs.Scheduler.{is_some, pending_external_in, pending_external, live, cancel_task}
 use Rattle.machine.specs.Sound.{is_ended, value_known, option_known}
 use Rattle.machine.specs.Events as machine-events
-use Rattle.machine.specs.Events.{Awaited, Result, make_coroutine, make_pending, make_settled, make_gather, exec_get_awaitable, apply_future_results, wake_in_order}
+use Rattle.machine.specs.Events.{Awaited, make_coroutine, make_pending, make_settled, make_gather, exec_get_awaitable, apply_future_results, wake_in_order}
 use Rattle.machine.specs.Machine as machine
 use Rattle.machine.specs.Machine.{Event, Step, is_run, any_of, unmade, result_unknown, bad_result, full, no_number, in_running, in_waiting, in_both, first_refusal, refusals, accept, entries_lost, runner, answer_await, task_completes, task_fails, resume_with_resolved_futures}
 use Rattle.machine_laws.specs.RemovalCounts.{cancel_shortens, cancel_loses_few}
 use Rattle.exec_switch.specs.Control.{awaited_of}
-use Rattle.exec_switch.specs.Answer.{stepped_of}
+use Rattle.exec_switch.specs.Answer.{answer_or, stepped_of}
 use Rattle.exec_switch.specs.LogLaws.{same_step}
 use Rattle.exec_futures.specs.Results.{results_from, results_in}
 use Rattle.exec_switch.specs.declared.control.Control.{Control}
+use Rattle.exec_switch.specs.Refusal.{refusal_number}
 use Rattle.exec_switch.specs.declared.answer.Answer.{Answer}
-use Rattle.step_checks.specs.Checked.{checked, turn_of}
+use Rattle.exec_switch.specs.declared.answer.Refusal.{Refusal}
+use Rattle.step_checks.specs.Checked.{checked, turn_of, wait_of}
 use Rattle.step_checks.specs.CheckedLaws.{met, unmet, none_met, refuses, accepts, turn-refuses, check_refuses, check_accepts, turn_runs, made-answers}
-use Rattle.step_checks.specs.declared.refusals.Turn.{Turn}
 
 -- the running task's number is a task's
-pub runner-fits : (os : List ℕ) {x : Turn} → x ≡ turn_of (header_at os).moment → (t : TaskId) → x ≡ Turn.Runs t → t.0 < task_limit
+pub runner-fits : (os : List ℕ) {x : Result TaskId Refusal} → x ≡ turn_of (header_at os).moment → (t : TaskId) → x ≡ Ok t → t.0 < task_limit
 runner-fits os f t h = let m : MomentFits (Moment.Running t) = rw (turn_runs os f t h) at (header_at-fits os).moment_fits in m
+
+-- what `?` hands on of a refusal
+pub handed_on : (n : Refusal) (r : Result Answer Refusal) → IsErrAnd r (λ m. m ≡ n) → answer_or r ≡ Answer.Refused n
+handed_on n (Ok a) h = absurd h
+handed_on n (Err m) h = ap Answer.Refused h
 
 -- refused: nothing is logged
 refused_logs : (s : Store) (e : Event) (a : Answer) → stepped_of s a ≡ checked s e → stepped_of (store_of s.tasks s.objects s.places s.queue (checked s e).store.log) a ≡ checked s e
 refused_logs s e a r = ap (λ (x : Step). stepped_of (store_of s.tasks s.objects s.places s.queue x.store.log) a) (sym r) ∙ r
 
-module _ (ts os ps : List ℕ) (q : ReadyQueue) (l : List LogEntry) {x : Turn} (f : x ≡ turn_of (header_at os).moment) where
+module _ (ts os ps : List ℕ) (q : ReadyQueue) (l : List LogEntry) {x : Result TaskId Refusal} (f : x ≡ turn_of (header_at os).moment) where
   abbrev here : Store
   here = store_of ts os ps q l
 
@@ -60,15 +66,15 @@ module _ (ts os ps : List ℕ) (q : ReadyQueue) (l : List LogEntry) {x : Turn} (
   moment-of = unfold header in f
 
   -- no task runs
-  pub no_turn : (e : Event) (rs : List (ℕ × Bool)) → refusals here e ≡ in_running here rs → (n : ℕ) → x ≡ Turn.Refused n → stepped_of here (Answer.Refused n) ≡ checked here e
+  pub no_turn : (e : Event) (rs : List (ℕ × Bool)) → refusals here e ≡ in_running here rs → (n : Refusal) → x ≡ Err n → stepped_of here (Answer.Refused n) ≡ checked here e
   no_turn e rs g n h = turn-refuses here e rs moment-of g n h
 
-  pub no_turn_logs : (e : Event) (rs : List (ℕ × Bool)) → refusals here e ≡ in_running here rs → (n : ℕ) → x ≡ Turn.Refused n
+  pub no_turn_logs : (e : Event) (rs : List (ℕ × Bool)) → refusals here e ≡ in_running here rs → (n : Refusal) → x ≡ Err n
       → stepped_of (store_of ts os ps q (checked here e).store.log) (Answer.Refused n) ≡ checked here e
   no_turn_logs e rs g n h = refused_logs here e (Answer.Refused n) (no_turn e rs g n h)
 
-  module _ (t : TaskId) (h : x ≡ Turn.Runs t) where
-    refused-by : (e : Event) (rs : List (ℕ × Bool)) → refusals here e ≡ in_running here rs → (n : ℕ) → first_refusal rs ≡ suc n → stepped_of here (Answer.Refused (suc n)) ≡ checked here e
+  module _ (t : TaskId) (h : x ≡ Ok t) where
+    refused-by : (e : Event) (rs : List (ℕ × Bool)) → refusals here e ≡ in_running here rs → (n : Refusal) → first_refusal rs ≡ refusal_number n → stepped_of here (Answer.Refused n) ≡ checked here e
     refused-by e rs g n k = check_refuses here e rs moment-of g t h n k
 
     done : (e : Event) (rs : List (ℕ × Bool)) → refusals here e ≡ in_running here rs → first_refusal rs ≡ 0 → checked here e ≡ accept here e
@@ -77,9 +83,9 @@ module _ (ts os ps : List ℕ) (q : ReadyQueue) (l : List LogEntry) {x : Turn} (
     -- ---- coroutine and call
 
     module _ (k : ℕ) {b : Bool} (e : b ≡ leb object_limit (header_at os).made) where
-      pub coroutine-refused : b ≡ true → stepped_of here (Answer.Refused 7) ≡ checked here (Event.coroutine k)
+      pub coroutine-refused : b ≡ true → stepped_of here (Answer.Refused Refusal.NoRoom) ≡ checked here (Event.coroutine k)
       unfolding refusals full header
-      coroutine-refused i = refused-by (Event.coroutine k) _ refl 6 (met 7 _ [] (sym e ∙ i))
+      coroutine-refused i = refused-by (Event.coroutine k) _ refl Refusal.NoRoom (met 7 _ [] (sym e ∙ i))
 
       pub coroutine-made : b ≡ false → {os' : List ℕ} {o : HeapId} → o.0 ≡ (header_at os).made → store_of ts os' ps q l ≡ make_coroutine here k
           → stepped_of (store_of ts os' ps q l) (Answer.Made o) ≡ checked here (Event.coroutine k)
@@ -87,9 +93,9 @@ module _ (ts os ps : List ℕ) (q : ReadyQueue) (l : List LogEntry) {x : Turn} (
       coroutine-made i j m = made-answers m j ∙ sym (done (Event.coroutine k) _ refl (unmet 7 _ [] (sym e ∙ i) ∙ none_met))
 
     module _ {b : Bool} (e : b ≡ leb call_limit (header_at os).calls) where
-      pub call-refused : b ≡ true → stepped_of here (Answer.Refused 8) ≡ checked here Event.call
+      pub call-refused : b ≡ true → stepped_of here (Answer.Refused Refusal.NoCallNumber) ≡ checked here Event.call
       unfolding refusals no_number header
-      call-refused i = refused-by Event.call _ refl 7 (met 8 _ [] (sym e ∙ i))
+      call-refused i = refused-by Event.call _ refl Refusal.NoCallNumber (met 8 _ [] (sym e ∙ i))
 
       pub call-given : b ≡ false → {os' : List ℕ} {n : CallId} → n.0 ≡ (header_at os).calls → store_of ts os' ps q l ≡ set_calls here (n.0 + 1)
           → stepped_of (store_of ts os' ps q l) (Answer.Called n) ≡ checked here Event.call
@@ -110,11 +116,11 @@ module _ (ts os ps : List ℕ) (q : ReadyQueue) (l : List LogEntry) {x : Turn} (
       or_none : (a b : Bool) → a ≡ false → b ≡ false → (a || b) ≡ false
       or_none a b e i = rw (e, i)
 
-      pub pending_unheard : v.calls ≤ c → stepped_of here (Answer.Refused 5) ≡ checked here (Event.pending c r)
+      pub pending_unheard : v.calls ≤ c → stepped_of here (Answer.Refused Refusal.Unknown) ≡ checked here (Event.pending c r)
       unfolding refusals header
       pending_unheard i =
           let k : (header_at os).calls ≤ c = rw w at i in
-          refused-by (Event.pending c r) _ refl 4 (met 5 _ _ (or_first _ _ (le-leb (header_at os).calls c k)))
+          refused-by (Event.pending c r) _ refl Refusal.Unknown (met 5 _ _ (or_first _ _ (le-leb (header_at os).calls c k)))
 
       module _ (i : c < v.calls) {b : Bool} (e : b ≡ option_known v.made (object_at os) r) where
         heard : leb (header_at os).calls c ≡ false
@@ -123,27 +129,27 @@ module _ (ts os ps : List ℕ) (q : ReadyQueue) (l : List LogEntry) {x : Turn} (
         known_as : option_known (header_at os).made (object_at os) r ≡ b
         known_as = rw w at (sym e)
 
-        pub pending_unknown : b ≡ false → stepped_of here (Answer.Refused 5) ≡ checked here (Event.pending c r)
+        pub pending_unknown : b ≡ false → stepped_of here (Answer.Refused Refusal.Unknown) ≡ checked here (Event.pending c r)
         unfolding refusals header object
-        pending_unknown k = refused-by (Event.pending c r) _ refl 4 (met 5 _ _ (or_second _ _ heard (rw (known_as, k))))
+        pending_unknown k = refused-by (Event.pending c r) _ refl Refusal.Unknown (met 5 _ _ (or_second _ _ heard (rw (known_as, k))))
 
         module _ (k : b ≡ true) {d : FoundObject} (m : d ≡ found_object (pending_external_in os c)) where
           words_right : (leb (header_at os).calls c || not (option_known (header_at os).made (object_at os) r)) ≡ false
           words_right = or_none _ _ heard (rw (known_as, k))
 
-          pub pending_again : (n : HeapId) → d ≡ Some n → stepped_of here (Answer.Refused 6) ≡ checked here (Event.pending c r)
+          pub pending_again : (n : HeapId) → d ≡ Some n → stepped_of here (Answer.Refused Refusal.PendingAlready) ≡ checked here (Event.pending c r)
           unfolding refusals header object pending_external is_some
           pending_again n j =
-              refused-by (Event.pending c r) _ refl 5 (unmet 5 _ _ words_right ∙ met 6 _ _ (rw (object-found (pending_external_in os c) n (sym m ∙ j))))
+              refused-by (Event.pending c r) _ refl Refusal.PendingAlready (unmet 5 _ _ words_right ∙ met 6 _ _ (rw (object-found (pending_external_in os c) n (sym m ∙ j))))
 
           module _ (j : d ≡ None) {u : Bool} (y : u ≡ leb object_limit (header_at os).made) where
             free : is_some (pending_external_in os c) ≡ false
             unfolding is_some
             free = rw (no_object (pending_external_in os c) (sym m ∙ j))
 
-            pub pending-full : u ≡ true → stepped_of here (Answer.Refused 7) ≡ checked here (Event.pending c r)
+            pub pending-full : u ≡ true → stepped_of here (Answer.Refused Refusal.NoRoom) ≡ checked here (Event.pending c r)
             unfolding refusals header object pending_external full
-            pending-full z = refused-by (Event.pending c r) _ refl 6 (unmet 5 _ _ words_right ∙ unmet 6 _ _ free ∙ met 7 _ [] (sym y ∙ z))
+            pending-full z = refused-by (Event.pending c r) _ refl Refusal.NoRoom (unmet 5 _ _ words_right ∙ unmet 6 _ _ free ∙ met 7 _ [] (sym y ∙ z))
 
             pub pending-made : u ≡ false → {os' : List ℕ} {o : HeapId} → o.0 ≡ (header_at os).made → store_of ts os' ps q l ≡ make_pending here c r
                 → stepped_of (store_of ts os' ps q l) (Answer.Made o) ≡ checked here (Event.pending c r)
@@ -156,22 +162,22 @@ module _ (ts os ps : List ℕ) (q : ReadyQueue) (l : List LogEntry) {x : Turn} (
       value_as : value_known (header_at os).made (object_at os) w ≡ b
       value_as = rw g at (sym e)
 
-      pub settled_unknown : b ≡ false → stepped_of here (Answer.Refused 5) ≡ checked here (Event.settled w)
+      pub settled_unknown : b ≡ false → stepped_of here (Answer.Refused Refusal.Unknown) ≡ checked here (Event.settled w)
       unfolding refusals header object
-      settled_unknown k = refused-by (Event.settled w) _ refl 4 (met 5 _ _ (rw (value_as, k)))
+      settled_unknown k = refused-by (Event.settled w) _ refl Refusal.Unknown (met 5 _ _ (rw (value_as, k)))
 
       module _ (k : b ≡ true) {u : Bool} (y : u ≡ leb object_limit (header_at os).made) where
         is_known : not (value_known (header_at os).made (object_at os) w) ≡ false
         is_known = rw (value_as, k)
 
-        pub settled-full : u ≡ true → stepped_of here (Answer.Refused 7) ≡ checked here (Event.settled w)
+        pub settled-full : u ≡ true → stepped_of here (Answer.Refused Refusal.NoRoom) ≡ checked here (Event.settled w)
         unfolding refusals header object full
-        settled-full z = refused-by (Event.settled w) _ refl 6 (unmet 5 _ _ is_known ∙ met 7 _ _ (sym y ∙ z))
+        settled-full z = refused-by (Event.settled w) _ refl Refusal.NoRoom (unmet 5 _ _ is_known ∙ met 7 _ _ (sym y ∙ z))
 
         module _ (z : u ≡ false) {n : Bool} (i : n ≡ leb call_limit (header_at os).calls) where
-          pub settled_over : n ≡ true → stepped_of here (Answer.Refused 8) ≡ checked here (Event.settled w)
+          pub settled_over : n ≡ true → stepped_of here (Answer.Refused Refusal.NoCallNumber) ≡ checked here (Event.settled w)
           unfolding refusals header object full no_number
-          settled_over j = refused-by (Event.settled w) _ refl 7 (unmet 5 _ _ is_known ∙ unmet 7 _ _ (sym y ∙ z) ∙ met 8 _ [] (sym i ∙ j))
+          settled_over j = refused-by (Event.settled w) _ refl Refusal.NoCallNumber (unmet 5 _ _ is_known ∙ unmet 7 _ _ (sym y ∙ z) ∙ met 8 _ [] (sym i ∙ j))
 
           pub settled-made : n ≡ false → {os' : List ℕ} {o : HeapId} → o.0 ≡ (header_at os).made → store_of ts os' ps q l ≡ make_settled here w
               → stepped_of (store_of ts os' ps q l) (Answer.Made o) ≡ checked here (Event.settled w)
@@ -184,17 +190,17 @@ module _ (ts os ps : List ℕ) (q : ReadyQueue) (l : List LogEntry) {x : Turn} (
       items_as : any_of (leb (header_at os).made) is ≡ b
       items_as = rw g at (sym e)
 
-      pub gather-unmade : b ≡ true → stepped_of here (Answer.Refused 5) ≡ checked here (Event.gather is)
+      pub gather-unmade : b ≡ true → stepped_of here (Answer.Refused Refusal.Unknown) ≡ checked here (Event.gather is)
       unfolding refusals header unmade
-      gather-unmade k = refused-by (Event.gather is) _ refl 4 (met 5 _ _ (items_as ∙ k))
+      gather-unmade k = refused-by (Event.gather is) _ refl Refusal.Unknown (met 5 _ _ (items_as ∙ k))
 
       module _ (k : b ≡ false) {u : Bool} (y : u ≡ (leb object_limit v.made || ltb item_limit (length is) || ltb place_limit (v.used + length is))) where
         room_as : (leb object_limit (header_at os).made || ltb item_limit (length is) || ltb place_limit ((header_at os).used + length is)) ≡ u
         room_as = rw g at (sym y)
 
-        pub gather-full : u ≡ true → stepped_of here (Answer.Refused 7) ≡ checked here (Event.gather is)
+        pub gather-full : u ≡ true → stepped_of here (Answer.Refused Refusal.NoRoom) ≡ checked here (Event.gather is)
         unfolding refusals header unmade full
-        gather-full z = refused-by (Event.gather is) _ refl 6 (unmet 5 _ _ (items_as ∙ k) ∙ met 7 _ [] (room_as ∙ z))
+        gather-full z = refused-by (Event.gather is) _ refl Refusal.NoRoom (unmet 5 _ _ (items_as ∙ k) ∙ met 7 _ [] (room_as ∙ z))
 
         pub gather-made : u ≡ false → {os' ps' : List ℕ} {o : HeapId} → o.0 ≡ (header_at os).made → store_of ts os' ps' q l ≡ make_gather here is
             → stepped_of (store_of ts os' ps' q l) (Answer.Made o) ≡ checked here (Event.gather is)
@@ -208,11 +214,11 @@ module _ (ts os ps : List ℕ) (q : ReadyQueue) (l : List LogEntry) {x : Turn} (
     runs_here = rw (turn_runs os f t h)
 
     module _ (o : ℕ) {v : Header} (g : v ≡ header_at os) where
-      pub await-unmade : v.made ≤ o → stepped_of (store_of ts os ps q (checked here (Event.await o)).store.log) (Answer.Refused 5) ≡ checked here (Event.await o)
+      pub await-unmade : v.made ≤ o → stepped_of (store_of ts os ps q (checked here (Event.await o)).store.log) (Answer.Refused Refusal.Unknown) ≡ checked here (Event.await o)
       unfolding refusals header unmade
       await-unmade i =
           let k : (header_at os).made ≤ o = rw g at i in
-          refused_logs here (Event.await o) (Answer.Refused 5) (refused-by (Event.await o) _ refl 4 (met 5 _ [] (le-leb (header_at os).made o k)))
+          refused_logs here (Event.await o) (Answer.Refused Refusal.Unknown) (refused-by (Event.await o) _ refl Refusal.Unknown (met 5 _ [] (le-leb (header_at os).made o k)))
 
       pub await-goes : o < v.made → {ts' os' ps' : List ℕ} {q' : ReadyQueue} (c : Control) (n : ℕ)
           → awaited_of (store_of ts' os' ps' q' (exec_get_awaitable here t.0 o).store.log) c n ≡ exec_get_awaitable here t.0 o
@@ -227,9 +233,9 @@ module _ (ts os ps : List ℕ) (q : ReadyQueue) (l : List LogEntry) {x : Turn} (
       given_as : value_known (header_at os).made (object_at os) w ≡ b
       given_as = rw g at (sym e)
 
-      pub complete_unknown : b ≡ false → stepped_of (store_of ts os ps q (checked here (Event.complete w)).store.log) (Answer.Refused 5) ≡ checked here (Event.complete w)
+      pub complete_unknown : b ≡ false → stepped_of (store_of ts os ps q (checked here (Event.complete w)).store.log) (Answer.Refused Refusal.Unknown) ≡ checked here (Event.complete w)
       unfolding refusals header object
-      complete_unknown k = refused_logs here (Event.complete w) (Answer.Refused 5) (refused-by (Event.complete w) _ refl 4 (met 5 _ [] (rw (given_as, k))))
+      complete_unknown k = refused_logs here (Event.complete w) (Answer.Refused Refusal.Unknown) (refused-by (Event.complete w) _ refl Refusal.Unknown (met 5 _ [] (rw (given_as, k))))
 
       pub complete-goes : b ≡ true → {ts' os' ps' : List ℕ} {q' : ReadyQueue} (a : Answer)
           → stepped_of (store_of ts' os' ps' q' (task_completes here t.0 w).store.log) a ≡ task_completes here t.0 w
@@ -265,32 +271,32 @@ module _ (ts os ps : List ℕ) (q : ReadyQueue) (l : List LogEntry) (bs : List �
   unfolding results_in
   length-in = length_from (length bs / 14) 0
 
-  refused-batch : (n : ℕ) → first_refusal (refusals waiting batch) ≡ suc n → stepped_of (store_of ts os ps q (checked waiting batch).store.log) (Answer.Refused (suc n)) ≡ checked waiting batch
-  refused-batch n k = refused_logs waiting batch (Answer.Refused (suc n)) (refuses waiting batch n k)
+  refused-batch : (n : Refusal) → first_refusal (refusals waiting batch) ≡ refusal_number n → stepped_of (store_of ts os ps q (checked waiting batch).store.log) (Answer.Refused n) ≡ checked waiting batch
+  refused-batch n k = refused_logs waiting batch (Answer.Refused n) (refuses waiting batch n k)
 
-  pub results-ended : b ≡ true → stepped_of (store_of ts os ps q (checked waiting batch).store.log) (Answer.Refused 3) ≡ checked waiting batch
+  pub results-ended : b ≡ true → stepped_of (store_of ts os ps q (checked waiting batch).store.log) (Answer.Refused Refusal.SessionEnded) ≡ checked waiting batch
   unfolding refusals in_both header
-  results-ended i = refused-batch 2 (met 3 _ _ (sym e ∙ i))
+  results-ended i = refused-batch Refusal.SessionEnded (met 3 _ _ (sym e ∙ i))
 
   module _ (i : b ≡ false) {u : Bool} (y : u ≡ any_of (result_unknown (store_of ts os ps q l)) (results_in bs)) where
-    pub results_unknown : u ≡ true → stepped_of (store_of ts os ps q (checked waiting batch).store.log) (Answer.Refused 5) ≡ checked waiting batch
+    pub results_unknown : u ≡ true → stepped_of (store_of ts os ps q (checked waiting batch).store.log) (Answer.Refused Refusal.Unknown) ≡ checked waiting batch
     unfolding refusals in_both header
-    results_unknown z = refused-batch 4 (unmet 3 _ _ (sym e ∙ i) ∙ met 5 _ _ (sym y ∙ z))
+    results_unknown z = refused-batch Refusal.Unknown (unmet 3 _ _ (sym e ∙ i) ∙ met 5 _ _ (sym y ∙ z))
 
     module _ (z : u ≡ false) where
-      pub results-many : result_limit < length bs / 14 → stepped_of (store_of ts os ps q (checked waiting batch).store.log) (Answer.Refused 10) ≡ checked waiting batch
+      pub results-many : result_limit < length bs / 14 → stepped_of (store_of ts os ps q (checked waiting batch).store.log) (Answer.Refused Refusal.BadResult) ≡ checked waiting batch
       unfolding refusals in_both header
       results-many n =
           let m : ltb result_limit (length (results_in bs)) ≡ true = rw length-in (lt-ltb result_limit (length bs / 14) n) in
-          refused-batch 9 (unmet 3 _ _ (sym e ∙ i) ∙ unmet 5 _ _ (sym y ∙ z) ∙ met 10 _ [] (rw m))
+          refused-batch Refusal.BadResult (unmet 3 _ _ (sym e ∙ i) ∙ unmet 5 _ _ (sym y ∙ z) ∙ met 10 _ [] (rw m))
 
       module _ (n : length bs / 14 ≤ result_limit) {w : Bool} (g : w ≡ any_of bad_result (results_in bs)) where
         few : ltb result_limit (length (results_in bs)) ≡ false
         few = rw length-in (le-ltb result_limit (length bs / 14) n)
 
-        pub results_bad : w ≡ true → stepped_of (store_of ts os ps q (checked waiting batch).store.log) (Answer.Refused 10) ≡ checked waiting batch
+        pub results_bad : w ≡ true → stepped_of (store_of ts os ps q (checked waiting batch).store.log) (Answer.Refused Refusal.BadResult) ≡ checked waiting batch
         unfolding refusals in_both header
-        results_bad k = refused-batch 9 (unmet 3 _ _ (sym e ∙ i) ∙ unmet 5 _ _ (sym y ∙ z) ∙ met 10 _ [] (rw (few, ← g, k)))
+        results_bad k = refused-batch Refusal.BadResult (unmet 3 _ _ (sym e ∙ i) ∙ unmet 5 _ _ (sym y ∙ z) ∙ met 10 _ [] (rw (few, ← g, k)))
 
         pub results-done : w ≡ false → {ts' os' ps' : List ℕ} {q' : ReadyQueue}
             → store_of ts' os' ps' q' (wake_in_order waiting (apply_future_results waiting (results_in bs))).log ≡ wake_in_order waiting (apply_future_results waiting (results_in bs))
@@ -310,14 +316,14 @@ module _ (ts os ps : List ℕ) (q : ReadyQueue) (l : List LogEntry) {v : Header}
   asked = store_of ts os ps q l
 
   module _ (e : Event) (rs : List (ℕ × Bool)) (k : refusals asked e ≡ in_waiting asked rs) where
-    waiting-ended : v.moment ≡ Moment.Ended → stepped_of (store_of ts os ps q (checked asked e).store.log) (Answer.Refused 3) ≡ checked asked e
-    waiting-ended h = refused_logs asked e (Answer.Refused 3) (refuses asked e 2 ends)
+    waiting-ended : v.moment ≡ Moment.Ended → stepped_of (store_of ts os ps q (checked asked e).store.log) (Answer.Refused Refusal.SessionEnded) ≡ checked asked e
+    waiting-ended h = refused_logs asked e (Answer.Refused Refusal.SessionEnded) (refuses asked e Refusal.SessionEnded ends)
       where
         ends : first_refusal (refusals asked e) ≡ 3
         ends = unfold in_waiting header first_refusal is_ended is_run in (rw (k, ← g, h))
 
-    waiting-running : (t : TaskId) → v.moment ≡ Moment.Running t → stepped_of (store_of ts os ps q (checked asked e).store.log) (Answer.Refused 4) ≡ checked asked e
-    waiting-running t h = refused_logs asked e (Answer.Refused 4) (refuses asked e 3 runs)
+    waiting-running : (t : TaskId) → v.moment ≡ Moment.Running t → stepped_of (store_of ts os ps q (checked asked e).store.log) (Answer.Refused Refusal.WrongMoment) ≡ checked asked e
+    waiting-running t h = refused_logs asked e (Answer.Refused Refusal.WrongMoment) (refuses asked e Refusal.WrongMoment runs)
       where
         runs : first_refusal (refusals asked e) ≡ 4
         runs = unfold in_waiting header first_refusal is_ended is_run in (rw (k, ← g, h))
@@ -330,10 +336,10 @@ module _ (ts os ps : List ℕ) (q : ReadyQueue) (l : List LogEntry) {v : Header}
   unfolding refusals
   resume-checks = refl
 
-  pub resume-ended : v.moment ≡ Moment.Ended → stepped_of (store_of ts os ps q (checked asked Event.resume).store.log) (Answer.Refused 3) ≡ checked asked Event.resume
+  pub resume-ended : v.moment ≡ Moment.Ended → stepped_of (store_of ts os ps q (checked asked Event.resume).store.log) (Answer.Refused Refusal.SessionEnded) ≡ checked asked Event.resume
   resume-ended h = waiting-ended Event.resume [] resume-checks h
 
-  pub resume-running : (t : TaskId) → v.moment ≡ Moment.Running t → stepped_of (store_of ts os ps q (checked asked Event.resume).store.log) (Answer.Refused 4) ≡ checked asked Event.resume
+  pub resume-running : (t : TaskId) → v.moment ≡ Moment.Running t → stepped_of (store_of ts os ps q (checked asked Event.resume).store.log) (Answer.Refused Refusal.WrongMoment) ≡ checked asked Event.resume
   resume-running t h = waiting-running Event.resume [] resume-checks t h
 
   pub resume-goes : v.moment ≡ Moment.Waiting → {ts' os' ps' : List ℕ} {q' : ReadyQueue} (a : Answer)
@@ -355,22 +361,22 @@ module _ (ts os ps : List ℕ) (q : ReadyQueue) (l : List LogEntry) {v : Header}
     unfolding refusals
     cancel-checks = refl
 
-    pub cancel-ended : v.moment ≡ Moment.Ended → stepped_of (store_of ts os ps q (checked asked stop).store.log) (Answer.Refused 3) ≡ checked asked stop
+    pub cancel-ended : v.moment ≡ Moment.Ended → stepped_of (store_of ts os ps q (checked asked stop).store.log) (Answer.Refused Refusal.SessionEnded) ≡ checked asked stop
     cancel-ended h = waiting-ended stop stop_checks cancel-checks h
 
-    pub cancel-running : (u : TaskId) → v.moment ≡ Moment.Running u → stepped_of (store_of ts os ps q (checked asked stop).store.log) (Answer.Refused 4) ≡ checked asked stop
+    pub cancel-running : (u : TaskId) → v.moment ≡ Moment.Running u → stepped_of (store_of ts os ps q (checked asked stop).store.log) (Answer.Refused Refusal.WrongMoment) ≡ checked asked stop
     cancel-running u h = waiting-running stop stop_checks cancel-checks u h
 
     module _ (h : v.moment ≡ Moment.Waiting) {b : Bool} (d : b ≡ not (live asked t)) where
-      pub cancel_dead : b ≡ true → stepped_of (store_of ts os ps q (checked asked stop).store.log) (Answer.Refused 5) ≡ checked asked stop
-      cancel_dead i = refused_logs asked stop (Answer.Refused 5) (refuses asked stop 4 (waiting-left stop stop_checks cancel-checks h ∙ met 5 _ _ (sym d ∙ i)))
+      pub cancel_dead : b ≡ true → stepped_of (store_of ts os ps q (checked asked stop).store.log) (Answer.Refused Refusal.Unknown) ≡ checked asked stop
+      cancel_dead i = refused_logs asked stop (Answer.Refused Refusal.Unknown) (refuses asked stop Refusal.Unknown (waiting-left stop stop_checks cancel-checks h ∙ met 5 _ _ (sym d ∙ i)))
 
       module _ (i : b ≡ false) where
         lives : first_refusal (refusals asked stop) ≡ first_refusal ((9, eqb t 0) ∷ [])
         lives = waiting-left stop stop_checks cancel-checks h ∙ unmet 5 _ _ (sym d ∙ i)
 
-        pub cancel_main : t ≡ 0 → stepped_of (store_of ts os ps q (checked asked stop).store.log) (Answer.Refused 9) ≡ checked asked stop
-        cancel_main z = refused_logs asked stop (Answer.Refused 9) (refuses asked stop 8 (lives ∙ met 9 _ _ (eq-eqb t 0 z)))
+        pub cancel_main : t ≡ 0 → stepped_of (store_of ts os ps q (checked asked stop).store.log) (Answer.Refused Refusal.MainCancelled) ≡ checked asked stop
+        cancel_main z = refused_logs asked stop (Answer.Refused Refusal.MainCancelled) (refuses asked stop Refusal.MainCancelled (lives ∙ met 9 _ _ (eq-eqb t 0 z)))
 
         -- the task goes: the answer says how many entries the queue q lost on the way to q'
         pub cancel-goes : (t ≡ 0 → ⊥) → {ts' os' ps' : List ℕ} {q' : ReadyQueue} → store_of ts' os' ps' q' (cancel_task asked t).log ≡ cancel_task asked t → {n : ℕ} → n ≡ q.len - q'.len
@@ -382,6 +388,29 @@ module _ (ts os ps : List ℕ) (q : ReadyQueue) (l : List LogEntry) {v : Header}
 
             gives : accept asked stop ≡ answers (cancel_task asked t)
             gives = unfold accept entries_lost in refl
+
+-- ---- events of waiting, by what the code knows of the moment
+
+waits_as : (m : Moment) → wait_of m ≡ Ok tt → m ≡ Moment.Waiting
+waits_as (Moment.Running u) h = let z : ◌≡◌ {A = ℕ} 0 1 = cc in absurd (omega arith)
+waits_as Moment.Waiting h = refl
+waits_as Moment.Ended h = let z : ◌≡◌ {A = ℕ} 0 1 = cc in absurd (omega arith)
+
+module _ (ts os ps : List ℕ) (q : ReadyQueue) (l : List LogEntry) {x : Result (Unit {0}) Refusal} (f : x ≡ wait_of (header_at os).moment) where
+  -- the host has control
+  pub host_has : x ≡ Ok tt → (header_at os).moment ≡ Moment.Waiting
+  host_has h = waits_as (header_at os).moment (sym f ∙ h)
+
+  module _ (e : Event) (rs : List (ℕ × Bool)) (k : refusals (store_of ts os ps q l) e ≡ in_waiting (store_of ts os ps q l) rs) where
+    waits-refused : (m : Moment) → (header_at os).moment ≡ m → (n : Refusal) → wait_of m ≡ Err n
+        → stepped_of (store_of ts os ps q (checked (store_of ts os ps q l) e).store.log) (Answer.Refused n) ≡ checked (store_of ts os ps q l) e
+    waits-refused (Moment.Running t) i n h = let z : n ≡ Refusal.WrongMoment = cc in rw z (waiting-running ts os ps q l refl e rs k t i)
+    waits-refused Moment.Waiting i n h = let z : ◌≡◌ {A = ℕ} 0 1 = cc in absurd (omega arith)
+    waits-refused Moment.Ended i n h = let z : n ≡ Refusal.SessionEnded = cc in rw z (waiting-ended ts os ps q l refl e rs k i)
+
+    -- it has not
+    pub no_wait_logs : (n : Refusal) → x ≡ Err n → stepped_of (store_of ts os ps q (checked (store_of ts os ps q l) e).store.log) (Answer.Refused n) ≡ checked (store_of ts os ps q l) e
+    no_wait_logs n h = waits-refused (header_at os).moment refl n (sym f ∙ h)
 
 -- ---- the queue after a cancel, in every store: q and q' are what the code has before and after
 

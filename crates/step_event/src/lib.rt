@@ -3,13 +3,13 @@
 #![tactic(auto)]
 
 ghost use Rattle.contract.specs.Entries.{SoundMemory};
-ghost use Rattle.exec_switch.specs.Answer.{Answers};
+ghost use Rattle.exec_switch.specs.Answer.{answer_or, Answers};
 ghost use Rattle.step_checks.specs.Checked.{checked};
 ghost use Rattle.step_event.specs.EventOf.{event_of};
 ghost use Rattle.step_event.specs.LentStep.{LentStep};
 
 use asyncio::{Objects, Places, Tasks, Value};
-use exec_switch::answer::Answer;
+use exec_switch::answer::{Answer, Refusal};
 use queue::ReadyQueue;
 
 // The events of kinds 1 to 11. The items of a gather and the results of a batch stand in slices of their own.
@@ -31,7 +31,7 @@ pub enum Event {
 // What a caller gets: the queue to pass back at the next call, the answer, and of a wait how many calls stand at the front of the list (0: it is no wait).
 #[derive(Drop)]
 pub struct Answered {
-    pub queue: &mut ReadyQueue,
+    pub queue: ReadyQueue,
     pub answer: Answer,
     pub calls: usize,
 }
@@ -45,8 +45,8 @@ fn checked(
     event: Event,
     items: &[u16],
     results: &[u8],
-) -> Answer
-    ensures { Answers tasks objects places queue (λ s. checked s (event_of items.now results.now event)) result }
+) -> Result<Answer, Refusal>
+    ensures { Answers tasks objects places queue (λ s. checked s (event_of items.now results.now event)) (answer_or result) }
 {
     match event {
         Event::Coroutine(f) => step_make::coroutine(objects, f),
@@ -70,7 +70,7 @@ pub fn step(
     objects: &mut [u64],
     places: &mut [u64],
     calls: &mut [u64],
-    queue: ReadyQueue,
+    mut queue: ReadyQueue,
     event: Event,
     items: &[u16],
     results: &[u8],
@@ -78,10 +78,24 @@ pub fn step(
     requires { SoundMemory tasks.old objects.old places.old calls.old queue }
     ensures { LentStep tasks objects places calls queue (event_of items.now results.now event) result }
 {
-    let answer = checked(tasks, objects, places, queue, event, items, results);
-    let count = step_checks::lent::write_calls(objects, calls, answer);
+    let store_tasks = tasks.as_mut_array().unwrap();
+    let store_objects = objects.as_mut_array().unwrap();
+    let store_places = places.as_mut_array().unwrap();
+    let answer = match checked(
+        store_tasks,
+        store_objects,
+        store_places,
+        &mut queue,
+        event,
+        items,
+        results,
+    ) {
+        Ok(answer) => answer,
+        Err(refusal) => Answer::Refused(refusal),
+    };
+    let count = step_checks::lent::write_calls(store_objects, calls, answer);
     Answered {
-        queue: after,
+        queue,
         answer,
         calls: count,
     }

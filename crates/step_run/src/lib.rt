@@ -2,15 +2,16 @@
 #![tactic(auto)]
 
 ghost use Rattle.machine.specs.Machine.{Event};
-ghost use Rattle.exec_switch.specs.Answer.{Answers, AnswersKeepingPlaces};
+ghost use Rattle.exec_switch.specs.Answer.{answer_or, Answers, AnswersKeepingPlaces};
 ghost use Rattle.step_checks.specs.Checked.{checked};
 
 use asyncio::{Error, HeapId, Objects, Places, Tasks, Value};
 use exec_await::exec_get_awaitable;
-use exec_switch::answer::Answer;
+use exec_switch::answer::{Answer, Refusal};
 use queue::ReadyQueue;
+use rows::tables::load_header;
 use sound_rows::values::value_known;
-use step_checks::refusals::{Turn, running};
+use step_checks::refusals::running;
 
 // The running task awaits an object.
 pub fn await_object(
@@ -19,24 +20,19 @@ pub fn await_object(
     places: &mut Places,
     queue: &mut ReadyQueue,
     o: u16,
-) -> Answer
-    ensures { Answers tasks objects places queue (λ s. checked s (Event.await o)) result }
+) -> Result<Answer, Refusal>
+    ensures { Answers tasks objects places queue (λ s. checked s (Event.await o)) (answer_or result) }
 {
-    let turn = running(objects);
-    match turn {
-        Turn::Refused(n) => Answer::Refused(n),
-        Turn::Runs(t) => {
-            let header = rows::tables::load_header(objects);
-            if header.made <= o {
-                return Answer::Refused(5);
-            }
-            let a = exec_get_awaitable(tasks, objects, places, queue, t, HeapId::new(o));
-            Answer::Awaited {
-                control: a.control,
-                steps: a.steps,
-            }
-        }
+    let t = running(objects)?;
+    let header = load_header(objects);
+    if header.made <= o {
+        return Err(Refusal::Unknown);
     }
+    let a = exec_get_awaitable(tasks, objects, places, queue, t, HeapId::new(o));
+    Ok(Answer::Awaited {
+        control: a.control,
+        steps: a.steps,
+    })
 }
 
 // The running task completes with a value.
@@ -46,29 +42,26 @@ pub fn complete(
     places: &mut Places,
     queue: &mut ReadyQueue,
     value: Value,
-) -> Answer
-    ensures { Answers tasks objects places queue (λ s. checked s (Event.complete value)) result }
+) -> Result<Answer, Refusal>
+    ensures { Answers tasks objects places queue (λ s. checked s (Event.complete value)) (answer_or result) }
 {
-    let turn = running(objects);
-    match turn {
-        Turn::Refused(n) => Answer::Refused(n),
-        Turn::Runs(t) => {
-            let header = rows::tables::load_header(objects);
-            if value_known(header.made, objects, value) {
-                return exec_ends::complete(tasks, objects, places, queue, t, value);
-            }
-            Answer::Refused(5)
-        }
+    let t = running(objects)?;
+    let header = load_header(objects);
+    if !value_known(header.made, objects, value) {
+        return Err(Refusal::Unknown);
     }
+    Ok(exec_ends::complete(tasks, objects, places, queue, t, value))
 }
 
 // The running task fails with the error script n.
-pub fn fail(tasks: &mut Tasks, objects: &mut Objects, queue: &mut ReadyQueue, n: u32) -> Answer
-    ensures { AnswersKeepingPlaces tasks objects queue (λ s. checked s (Event.fail n)) result }
+pub fn fail(
+    tasks: &mut Tasks,
+    objects: &mut Objects,
+    queue: &mut ReadyQueue,
+    n: u32,
+) -> Result<Answer, Refusal>
+    ensures { AnswersKeepingPlaces tasks objects queue (λ s. checked s (Event.fail n)) (answer_or result) }
 {
-    let turn = running(objects);
-    match turn {
-        Turn::Refused(k) => Answer::Refused(k),
-        Turn::Runs(t) => exec_ends::fail(tasks, objects, queue, t, Error::Script(n)),
-    }
+    let t = running(objects)?;
+    Ok(exec_ends::fail(tasks, objects, queue, t, Error::Script(n)))
 }

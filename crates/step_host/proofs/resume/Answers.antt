@@ -1,11 +1,12 @@
-use Rattle.step_checks.specs.StepLaws.{resume-ended, resume-running, resume-goes}
+use mathlib.Core.List.{[]}
+use mathlib.Core.Path.{refl}
+use Rattle.machine.specs.Machine.{refusals}
+use Rattle.step_checks.specs.StepLaws.{handed_on, host_has, no_wait_logs, resume-goes}
 use Rattle.step_host.proofs.resume.Goals as goal
 
-pub returns-in-Ended : goal.returns-in-Ended
-returns-in-Ended c = λ ps l w. resume-ended c.args.tasks.now c.args.objects.now ps c.args.queue l c.load_header-header.ensures c.in-Ended.is
+pub returns-in_err-waiting : goal.returns-in_err-waiting
+unfolding refusals
+returns-in_err-waiting c = λ ps l w. rw (handed_on _ _ c.from_residual.ensures.1) (no_wait_logs c.args.tasks.now c.args.objects.now ps c.args.queue.now l c.waiting.ensures _ [] refl _ c.in_err-waiting.was)
 
-pub returns-in-Running : goal.returns-in-Running
-returns-in-Running c = λ ps l w. resume-running c.args.tasks.now c.args.objects.now ps c.args.queue l c.load_header-header.ensures _ c.in-Running.is
-
-pub returns-in-Waiting : goal.returns-in-Waiting
-returns-in-Waiting c = λ ps l w. resume-goes c.args.tasks.now c.args.objects.now ps c.args.queue l c.load_header-header.ensures c.in-Waiting.is c.resume_with_resolved_futures.result.answer (c.resume_with_resolved_futures.ensures ps l w)
+pub returns : goal.returns
+returns c = λ ps l w. resume-goes c.args.tasks.now c.args.objects.now ps c.args.queue.now l refl (host_has c.args.tasks.now c.args.objects.now ps c.args.queue.now l c.waiting.ensures c.in_ok-waiting.was) c.resume_with_resolved_futures.result (c.resume_with_resolved_futures.ensures ps l w)

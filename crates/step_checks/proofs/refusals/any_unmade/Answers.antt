@@ -1,19 +1,17 @@
-use Prim.Native.Nat.{◌-◌}
-use mathlib.Core.Path.{refl, sym, ◌∙◌}
-use native.Mathlib.Omega.{arith}
-use lib.Dec.{leb}
-use borrow.Author.Tests.{le-leb, lt-leb}
-use Rattle.step_checks.specs.TestLaws.{any_here, any_turn, any_end}
+use Rattle.std.specs.Prelude.{◌≡◌, refl, Bool, List, [], ◌∷◌}
+use Rattle.std.specs.List.{list_any}
+use Rattle.std.proofs.Common.{ap, ◌∙◌, leb, ◌||◌, rules, tests}
+use Rattle.std.proofs.lemmas.Iterator.{YieldsList-from_slice}
+use Rattle.std.proofs.lemmas.Iterator.Search.{any_from_yields_List}
+use Rattle.machine.specs.Machine.{any_of}
 use Rattle.step_checks.proofs.refusals.any_unmade.Goals as goal
 
-pub loop-i-init : goal.loop-i-init
-loop-i-init c = (refl, omega arith)
-
-pub returns-then-made-items : goal.returns-then-made-items
-returns-then-made-items c = sym (any_here (leb c.args.made) c.args.items.now c.loop-i.i c.loop-i-test.true (le-leb _ _ c.if-made-items.true)) ∙ c.loop-i.invariant.0
-
-pub loop-i-preserved : goal.loop-i-preserved
-loop-i-preserved c = (any_turn (leb c.args.made) c.args.items.now c.loop-i.i c.loop-i-test.true (lt-leb _ _ c.if-made-items.false) ∙ c.loop-i.invariant.0, omega arith)
+any_of-is : {X : Type 0} (test : X → Bool) (xs : List X) → list_any test xs ≡ any_of test xs
+unfolding any_of
+any_of-is test [] = refl
+any_of-is test (x ∷ xs) = ap (λ b. test x || b) (any_of-is test xs)
 
 pub returns : goal.returns
-returns c = sym (any_end (leb c.args.made) c.args.items.now c.loop-i.i (omega arith)) ∙ c.loop-i.invariant.0
+returns c =
+    let made = leb c.args.made in
+    any_from_yields_List made _ _ _ c.any.ensures.ran (YieldsList-from_slice c.args.items.now cc) (λ x b q k. search (rules, tests)) ∙ any_of-is made c.args.items.now

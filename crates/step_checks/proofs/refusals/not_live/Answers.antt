@@ -1,13 +1,15 @@
+use mathlib.Core.Path.{◌∙◌}
 use native.Mathlib.Omega.{arith}
+use borrow.Author.Tests.{le-leb}
 use Rattle.rows.specs.TableLaws.{header_read}
 use Rattle.step_checks.specs.StepLaws.{past_next, below_next}
 use Rattle.step_checks.proofs.refusals.not_live.Goals as goal
 
-pub returns-then-header-t : goal.returns-then-header-t
-returns-then-header-t c = λ ps q l. past_next c.args.tasks.now c.args.objects.now ps q l c.args.t c.load_header-header.ensures c.if-header-t.true
+pub returns-then-load_header-t : goal.returns-then-load_header-t
+returns-then-load_header-t c = λ ps q l. le-leb _ _ c.if-load_header-t.true ∙ past_next c.args.tasks.now c.args.objects.now ps q l c.args.t c.load_header.ensures c.if-load_header-t.true
 
-pub state_at-state-requires : goal.state_at-state-requires
-state_at-state-requires c = (c.requires.0, rw c.new.ensures (omega (arith, c.if-header-t.false, (header_read _ c.load_header-header.ensures).next_fits)))
+pub state_at-requires : goal.state_at-requires
+state_at-requires c = rw c.new.ensures (omega (arith, c.if-load_header-t.false, (header_read _ c.load_header.ensures).next_fits))
 
-pub returns : goal.returns
-returns c = λ ps q l. below_next c.args.tasks.now c.args.objects.now ps q l c.args.t c.load_header-header.ensures c.if-header-t.false (rw c.new.ensures at c.state_at-state.ensures) c.is_live.ensures
+pub returns-else-load_header-t : goal.returns-else-load_header-t
+returns-else-load_header-t c = λ ps q l. below_next c.args.tasks.now c.args.objects.now ps q l c.args.t c.load_header.ensures c.if-load_header-t.false (rw c.new.ensures at c.state_at.ensures) c.is_live.ensures
