@@ -1,5 +1,4 @@
-use Rattle.std.specs.Prelude.{◌≡◌, ℕ, List, [], Some, MatchOption}
-use Rattle.std.specs.Option.{Option}
+use Rattle.std.specs.Prelude.{◌≡◌, ℕ, List, [], Some, Option, MatchOption}
 use Rattle.std.specs.Array.{IsWholeChunk}
 use Rattle.std.proofs.Common.{sym, ap, ◌∙◌, MutBor}
 use Rattle.queue.specs.declared.ReadyQueue.{ReadyQueue}
@@ -25,14 +24,14 @@ pub write_calls-count-requires : goal.write_calls-count-requires
 write_calls-count-requires c = let h = right_lengths c.args.tasks.now c.args.objects.now c.args.places.now c.args.queue c.args.calls.now c.requires.0 in h.3
 
 -- the array that a slice of the right length is lent as
-whole : {xs : List ℕ} {P : Type 0} {n : ℕ} {r : Option (MutBor (List ℕ))} {y : MutBor (List ℕ)} → r ≡ Some y → MatchOption r P (λ z. IsWholeChunk xs z.now n) → y.now ≡ xs
-whole {xs} {P} {n} {r} {y} e m = let w : IsWholeChunk xs y.now n = rw e at m in w.same
+whole : {xs : List ℕ} (P : Type 0) (n : ℕ) {r : Option (MutBor (List ℕ))} {y : MutBor (List ℕ)} → r ≡ Some y → MatchOption r P (λ z. IsWholeChunk xs z.now n) → y.now ≡ xs
+whole {xs} P n {r} {y} e m = let w : IsWholeChunk xs y.now n = rw e at m in w.same
 
 -- the step of the arrays is the step of the slices
-of_slices : {ts os ps us vs ws ts' os' ps' : List ℕ} {q q' : ReadyQueue} {e : Event} {r a : Answer} → us ≡ ts → vs ≡ os → ws ≡ ps → r ≡ a
+of_slices : {ts os ps us vs ws ts' os' ps' : List ℕ} (q : ReadyQueue) {q' : ReadyQueue} (e : Event) {r a : Answer} → us ≡ ts → vs ≡ os → ws ≡ ps → r ≡ a
     → stepped_of (store_of ts' os' ps' q' (checked (store_of us vs ws q []) e).store.log) r ≡ checked (store_of us vs ws q []) e
     → stepped_of (store_of ts' os' ps' q' (checked (store_of ts os ps q []) e).store.log) a ≡ checked (store_of ts os ps q []) e
-of_slices e f g h r = rw (← e, ← f, ← g, ← h) r
+of_slices q e i j k h r = rw (← i, ← j, ← k, ← h) r
 
 pub returns : goal.returns
 returns c = λ l.
@@ -40,5 +39,5 @@ returns c = λ l.
       | in-Ok w ↦ ap answer_or w.in-Ok.is ∙ sym w.answer-is
       | in-Err w ↦ ap answer_or w.in-Err.is ∙ sym w.answer-is
     ] in
-    let stepped = of_slices (whole c.unwrap-store_tasks.ensures c.as_mut_array.ensures.cases) (whole c.unwrap-store_objects.ensures c.as_mut_array-2.ensures.cases) (whole c.unwrap-store_places.ensures c.as_mut_array-3.ensures.cases) answer (c.checked.ensures []) in
+    let stepped = of_slices _ _ (whole _ _ c.unwrap-store_tasks.ensures c.as_mut_array.ensures.cases) (whole _ _ c.unwrap-store_objects.ensures c.as_mut_array-2.ensures.cases) (whole _ _ c.unwrap-store_places.ensures c.as_mut_array-3.ensures.cases) answer (c.checked.ensures []) in
     steps_soundly c.args.tasks.now c.args.objects.now c.args.places.now c.args.queue c.args.calls.now l _ c.requires.0 c.requires.1 c.match-checked.answer stepped c.write_calls-count.ensures
