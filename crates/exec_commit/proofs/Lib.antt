@@ -1,1 +1,2 @@
 pub mod NoGather
+pub mod StackLaws

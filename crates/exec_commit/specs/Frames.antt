@@ -1,5 +1,5 @@
--- The frames of a commit in two arrays and a depth, and what a commit gives.
-use Rattle.std.specs.Prelude.{◌≡◌, List, [], ◌∷◌, ℕ, zero, suc, ◌<◌, get_or}
+-- The frames of a commit that wait, and what a commit gives.
+use Rattle.std.specs.Prelude.{◌≡◌, List, [], ◌∷◌, ℕ, ◌<◌}
 use Rattle.asyncio.specs.Limits.{object_limit}
 use Rattle.asyncio.specs.declared.Error.{Error}
 use Rattle.queue.specs.declared.ReadyQueue.{ReadyQueue}
@@ -12,14 +12,10 @@ use Rattle.exec_poll.specs.Polls.{poll_of}
 use Rattle.exec_commit.specs.Steps.{frame}
 use Rattle.exec_commit.specs.declared.tree.Committed.{Committed}
 
--- the d frames below the innermost: their gathers and the places that are stepped next
-unfoldable pub below : List ℕ → List ℕ → ℕ → List Frame
-below gs ns zero = []
-below gs ns (suc d) = frame (get_or gs d 0) (get_or ns d 0) ∷ below gs ns d
-
 -- their gathers are numbers of objects
-abbrev pub GathersFit : List ℕ → ℕ → Type 0
-GathersFit gs d = (i : ℕ) → i < d → get_or gs i 0 < object_limit
+unfoldable pub GathersFit : List Frame → Type 0
+GathersFit [] = Unit {0}
+GathersFit (f ∷ fs) = (f.gather < object_limit) × GathersFit fs
 
 -- What a commit gives: the store after it, what the await sees, and the number of commit steps. (The machine counts the gathers
 -- opened and settled too: no code does.)
@@ -46,11 +42,11 @@ pub record GoesOn (M : List LogEntry → machine.Committed) (ts os ps : List ℕ
 
 -- ---- what a call does
 
--- The call marks gather g and the gathers below it failed, whatever places are stepped next.
-abbrev pub Unwinds : Slice → ℕ → List ℕ → ℕ → Error → Type 0
-Unwinds objects g gathers depth error =
-    (ts ps ns : List ℕ) (n : ℕ) (q : ReadyQueue) (l : List LogEntry) →
-    store_of ts objects.exit.now ps q l ≡ unwind (store_of ts objects.entry.now ps q l) (frame g n ∷ below gathers ns depth) error
+-- The call marks gather g and the gathers below it failed, whatever place of g is stepped next.
+abbrev pub Unwinds : Slice → ℕ → List Frame → Error → Type 0
+Unwinds objects g fs error =
+    (ts ps : List ℕ) (n : ℕ) (q : ReadyQueue) (l : List LogEntry) →
+    store_of ts objects.exit.now ps q l ≡ unwind (store_of ts objects.entry.now ps q l) (frame g n ∷ fs) error
 
 -- The call commits, as f does, with a lent queue.
 abbrev pub Commits : Slice → Slice → Slice → LentQueue → (Store → machine.Committed) → Committed → Type 0

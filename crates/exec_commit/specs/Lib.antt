@@ -1,4 +1,5 @@
 pub mod Steps
+pub mod Stack
 pub mod StepLaws
 pub mod Frames
 pub mod SettleLaws

@@ -1,5 +1,5 @@
 -- The ways through opening, settling, resuming and unwinding, in the shape of what the code knows there.
-use Rattle.std.specs.Prelude.{◌≡◌, List, ◌∷◌, ℕ, suc, get_or, None, Some}
+use Rattle.std.specs.Prelude.{◌≡◌, List, [], ◌∷◌, ℕ, None, Some}
 use borrow.Author.Tests.{eq-eqb, ne_eqb}
 use Rattle.asyncio.specs.Numbers.{heap_id}
 use Rattle.asyncio.specs.declared.Value.{Value}
@@ -10,11 +10,10 @@ use Rattle.rows.specs.Tables.{object_at, object_put}
 use Rattle.queue.specs.declared.ReadyQueue.{ReadyQueue}
 use Rattle.machine.specs.Store.{LogEntry, store_of, object, put_object}
 use Rattle.machine.specs.Scheduler.{as_awaited}
-use Rattle.machine.specs.Commit.{ready, pending, gives, open_place, fill_place, with_state, set_gather, settle_as, settle_gather_commit, resume_in, resume_as, resume_after_child, unwind}
+use Rattle.machine.specs.Commit.{ready, pending, gives, open_place, fill_place, with_state, set_gather, settle_as, settle_gather_commit, resume_in, resume_as, resume_after_child, unwind, Frame}
 use Rattle.scheduler_states.specs.Awaited.{awaited_gather_of, option_awaited}
 use Rattle.exec_poll.specs.Polls.{poll_of}
 use Rattle.exec_commit.specs.Steps.{frame}
-use Rattle.exec_commit.specs.Frames.{below}
 use Rattle.scheduler_states.specs.declared.awaited.AwaitedGather.{AwaitedGather}
 use Rattle.scheduler_states.specs.Awaited.{OptionAwaited}
 use Rattle.exec_poll.specs.declared.item.Poll.{Poll}
@@ -66,19 +65,13 @@ module _ (ts os ps : List ℕ) (q : ReadyQueue) (l : List LogEntry) (g : ℕ) (a
 
 -- ---- unwinding
 
-module _ (ts os ps : List ℕ) (q : ReadyQueue) (l : List LogEntry) (gs ns : List ℕ) (x : Error) where
-  -- the innermost gather
-  pub unwind-begins : (g n d : ℕ) {us : List ℕ} → store_of ts us ps q l ≡ set_gather (store_of ts os ps q l) g (GatherState.Failed x)
-      → unwind (store_of ts us ps q l) (below gs ns d) x ≡ unwind (store_of ts os ps q l) (frame g n ∷ below gs ns d) x
+module _ (ts os ps : List ℕ) (q : ReadyQueue) (l : List LogEntry) (x : Error) where
+  -- a gather, then those below it
+  pub unwind-turns : (f : Frame) (fs : List Frame) {gs : List Frame} → gs ≡ f ∷ fs → {us : List ℕ} → store_of ts us ps q l ≡ set_gather (store_of ts os ps q l) f.gather (GatherState.Failed x)
+      → unwind (store_of ts us ps q l) fs x ≡ unwind (store_of ts os ps q l) gs x
   unfolding unwind
-  unwind-begins g n d e = rw e
+  unwind-turns f fs z e = rw (z, e)
 
-  -- one below it
-  pub unwind-turns : (d k : ℕ) → d ≡ suc k → {us : List ℕ} → store_of ts us ps q l ≡ set_gather (store_of ts os ps q l) (get_or gs k 0) (GatherState.Failed x)
-      → unwind (store_of ts us ps q l) (below gs ns k) x ≡ unwind (store_of ts os ps q l) (below gs ns d) x
-  unfolding unwind below
-  unwind-turns d k z e = rw (z, e)
-
-  pub unwind-ends : (d : ℕ) → d ≡ 0 → store_of ts os ps q l ≡ unwind (store_of ts os ps q l) (below gs ns d) x
-  unfolding unwind below
-  unwind-ends d z = rw z
+  pub unwind-ends : {gs : List Frame} → gs ≡ [] → store_of ts os ps q l ≡ unwind (store_of ts os ps q l) gs x
+  unfolding unwind
+  unwind-ends z = rw z

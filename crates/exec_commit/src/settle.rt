@@ -1,5 +1,5 @@
 // The gathers of a commit: opened, settled, resumed, and failed when the commit fails.
-ghost use Rattle.std.specs.Prelude.{◌≡◌, ◌<◌, ◌≤◌};
+ghost use Rattle.std.specs.Prelude.{◌≡◌, ◌<◌, ◌≤◌, length};
 ghost use Rattle.asyncio.specs.Limits.{object_limit};
 ghost use Rattle.asyncio.specs.Parts.{count_of};
 ghost use Rattle.rows.specs.Tables.{object_at};
@@ -7,9 +7,10 @@ ghost use Rattle.machine.specs.Commit.{gives, with_state, set_gather, open_gathe
 ghost use Rattle.exec_poll.specs.Polls.{poll_of, PollsOfObjects};
 ghost use Rattle.exec_commit.specs.Steps.{frame};
 ghost use Rattle.exec_commit.specs.Frames.{GathersFit, Unwinds};
+ghost use Rattle.exec_commit.specs.Stack.{stack_of};
 ghost use Rattle.contract.specs.Contract.{ChangesObjects, ChangesObjectsAndPlaces};
 
-use crate::OBJECTS;
+use crate::frames::Frames;
 use crate::step::{fill_place, open_place};
 use asyncio::{Awaiter, Error, GatherState, HeapId, Object, Objects, Places, Value};
 use exec_poll::item::Poll;
@@ -91,19 +92,19 @@ pub(crate) fn resume_after_child(
     }
 }
 
-// An error marks every gather of the commit failed, the innermost first: `g`, then the `depth` gathers below it.
+// An error marks every gather of the commit failed, the innermost first: `g`, then those that wait.
 pub(crate) fn unwind_gather_commits(
     objects: &mut Objects,
     g: HeapId,
-    gathers: [u16; OBJECTS],
-    depth: usize,
+    mut waiting: Frames,
     error: Error,
 )
-    requires { (g.0 < object_limit) × (depth ≤ object_limit) × GathersFit gathers depth }
-    ensures { Unwinds objects g.0 gathers depth error }
+    requires room { length (stack_of waiting) ≤ object_limit }
+    requires gathers { (g.0 < object_limit) × GathersFit (stack_of waiting) }
+    ensures { Unwinds objects g.0 (stack_of waiting) error }
 {
     set_gather(objects, g, GatherState::Failed(error));
-    for d in (0..depth).rev() {
-        set_gather(objects, HeapId::new(gathers[d]), GatherState::Failed(error));
+    while let Some(frame) = waiting.pop() {
+        set_gather(objects, frame.gather, GatherState::Failed(error));
     }
 }

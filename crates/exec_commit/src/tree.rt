@@ -4,7 +4,7 @@ ghost use Rattle.asyncio.specs.Limits.{object_limit};
 ghost use Rattle.machine.specs.Commit.{commit_gather_tree};
 ghost use Rattle.exec_commit.specs.Frames.{Commits};
 
-use crate::OBJECTS;
+use crate::frames::{Frame, Frames};
 use crate::settle::{
     open_gather_commit, resume_after_child, settle_gather_commit, unwind_gather_commits,
 };
@@ -20,8 +20,8 @@ pub struct Committed {
     pub steps: u16,
 }
 
-// Gather `root`, for its awaiter, and every gather nested in it. A frame is a gather and its place that is stepped next: the innermost
-// is in `g` and `next`, those below it in the arrays. A frame goes there when a pending gather is opened, so that one for each object is enough.
+// Gather `root`, for its awaiter, and every gather nested in it. The innermost is on `top`; those that it is nested in wait. One comes to
+// wait when a pending gather is opened, so that a frame for each object is enough.
 pub fn commit_gather_tree(
     tasks: &mut Tasks,
     objects: &mut Objects,
@@ -35,44 +35,41 @@ pub fn commit_gather_tree(
         (λ s. commit_gather_tree s root.0 awaiter) result }
 {
     open_gather_commit(objects, root, awaiter);
-    let mut gathers = [0u16; OBJECTS];
-    let mut nexts = [0u16; OBJECTS];
-    let mut depth: usize = 0;
-    let mut g = root;
-    let mut next: u16 = 0;
+    let mut waiting = Frames::new();
+    let mut top = Frame {
+        gather: root,
+        next: 0,
+    };
     let mut steps: u16 = 0;
     loop {
-        let stop = step_gather_commit(tasks, objects, places, queue, g, next);
+        let stop = step_gather_commit(tasks, objects, places, queue, top.gather, top.next);
         steps += 1;
         match stop {
             Stop::Nested { at, item } => {
-                gathers[depth] = g.0;
-                nexts[depth] = at;
-                depth += 1;
-                open_gather_commit(
-                    objects,
-                    item,
-                    Awaiter::GatherSlot {
-                        gather: g,
-                        source: item,
-                    },
-                );
-                g = item;
-                next = 0;
+                waiting.push(Frame { next: at, ..top });
+                let slot = Awaiter::GatherSlot {
+                    gather: top.gather,
+                    source: item,
+                };
+                open_gather_commit(objects, item, slot);
+                top = Frame {
+                    gather: item,
+                    next: 0,
+                };
             }
             Stop::End => {
-                let poll = settle_gather_commit(objects, g);
-                if depth == 0 {
+                let poll = settle_gather_commit(objects, top.gather);
+                let Some(outer) = waiting.pop() else {
                     return Committed { poll, steps };
-                }
-                depth -= 1;
-                g = HeapId::new(gathers[depth]);
-                let child = nexts[depth];
-                resume_after_child(objects, places, g, child as usize, poll);
-                next = child + 1;
+                };
+                resume_after_child(objects, places, outer.gather, outer.next as usize, poll);
+                top = Frame {
+                    next: outer.next + 1,
+                    ..outer
+                };
             }
             Stop::Raised(e) => {
-                unwind_gather_commits(objects, g, gathers, depth, e);
+                unwind_gather_commits(objects, top.gather, waiting, e);
                 return Committed {
                     poll: Poll::Raised(e),
                     steps,

@@ -1,17 +1,28 @@
 use mathlib.Core.Path.{refl, ◌∙◌}
-use Prim.Native.Nat.{◌-◌}
 use native.Mathlib.Omega.{arith}
-use Rattle.exec_commit.specs.SettleLaws.{unwind-begins, unwind-turns, unwind-ends}
+use Rattle.exec_commit.specs.Frames.{GathersFit}
+use Rattle.exec_commit.specs.SettleLaws.{unwind-turns, unwind-ends}
+use Rattle.exec_commit.proofs.StackLaws.{popped, nothing_popped, length-pushed}
 use Rattle.exec_commit.proofs.settle.unwind_gather_commits.Goals as goal
 
-pub loop-d-init : goal.loop-d-init
-loop-d-init c = λ ts ps ns q k. refl
+pub loop-frame-init : goal.loop-frame-init
+loop-frame-init c = ((λ ts ps q k. refl), c.requires.gathers.1, c.requires.room)
 
-pub set_gather-requires-in-loop-d : goal.set_gather-requires-in-loop-d
-set_gather-requires-in-loop-d c = rw c.new.ensures (c.requires.2 _ (omega arith))
+pub pop-requires : goal.pop-requires
+pop-requires c = c.loop-frame.invariant.2
 
-pub loop-d-preserved : goal.loop-d-preserved
-loop-d-preserved c = λ ts ps ns q k. unwind-turns ts c.loop-d.objects ps q k c.args.gathers ns c.args.error c.loop-d.d (c.loop-d.d - 1) (omega arith) (rw c.new.ensures at (c.set_gather-in-loop-d.ensures ts ps q k)) ∙ c.loop-d.invariant ts ps ns q k
+pub set_gather-requires-in-Some : goal.set_gather-requires-in-Some
+unfolding GathersFit
+set_gather-requires-in-Some c = (rw (popped c.pop.ensures c.in-Some.is) at c.loop-frame.invariant.1).0
+
+pub loop-frame-smaller : goal.loop-frame-smaller
+loop-frame-smaller c = omega (arith, length-pushed (popped c.pop.ensures c.in-Some.is))
+
+pub loop-frame-preserved : goal.loop-frame-preserved
+unfolding GathersFit
+loop-frame-preserved c =
+    let e = popped c.pop.ensures c.in-Some.is in
+    ((λ ts ps q k. unwind-turns ts c.loop-frame.objects ps q k c.args.error _ _ e (c.set_gather-in-Some.ensures ts ps q k) ∙ c.loop-frame.invariant.0 ts ps q k), (rw e at c.loop-frame.invariant.1).1, omega (arith, length-pushed e, c.loop-frame.invariant.2))
 
 pub returns : goal.returns
-returns c = λ ts ps ns n q l. unwind-ends ts c.loop-d.objects ps q l c.args.gathers ns c.args.error c.loop-d.d (omega arith) ∙ c.loop-d.invariant ts ps ns q l ∙ unwind-begins ts c.args.objects.now ps q l c.args.gathers ns c.args.error c.args.g.0 n c.args.depth (c.set_gather.ensures ts ps q l)
+returns c = λ ts ps n q l. unwind-ends ts c.loop-frame.objects ps q l c.args.error (nothing_popped _ _ _ c.pop.ensures c.in_default.not-Some) ∙ c.loop-frame.invariant.0 ts ps q l ∙ unwind-turns ts c.args.objects.now ps q l c.args.error _ _ refl (c.set_gather.ensures ts ps q l)

@@ -1,4 +1,3 @@
-use mathlib.Core.Path.{◌∙◌}
 use native.Mathlib.Omega.{arith}
 use Rattle.scheduler_states.specs.AwaitedLaws.{awaited_range}
 use Rattle.exec_commit.specs.StepLaws.{place_range, item_range, step-none, step-nested, step-polled}
