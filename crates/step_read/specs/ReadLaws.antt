@@ -16,7 +16,8 @@ use Rattle.machine.specs.Sound.{sound}
 use Rattle.machine.specs.Machine as machine
 use Rattle.machine.specs.Machine.{Event, Step, first_refusal, refusals, unmade, accept, step, slot_value, show_places, shown, can_await_eagerly}
 use Rattle.machine.specs.Lent.{slices_right, lent_read}
-use Rattle.exec_switch.specs.declared.answer.Answer.{Answer}
+use Rattle.exec_switch.specs.Refusal.{refusal_number}
+use Rattle.exec_switch.specs.declared.answer.Refusal.{Refusal}
 use Rattle.step_checks.specs.Checked.{checked}
 use Rattle.step_checks.specs.CheckedLaws.{met, unmet, none_met, refuses, accepts}
 use Rattle.step_checks.specs.Lent.{are_slices}
@@ -65,7 +66,7 @@ module _ (ts os ps : List ℕ) (q : ReadyQueue) (l : List LogEntry) (e : Event) 
 
 -- ---- the checks from 3 on
 
-read-refused : (s : Store) (e : Event) (n : ℕ) → first_refusal (refusals s e) ≡ suc n → machine.Answer.refused (suc n) ≡ (checked s e).answer
+read-refused : (s : Store) (e : Event) (n : Refusal) → first_refusal (refusals s e) ≡ refusal_number n → machine.Answer.refused (refusal_number n) ≡ (checked s e).answer
 read-refused s e n r = ap (λ (x : Step). x.answer) (refuses s e n r)
 
 pub read_done : (s : Store) (e : Event) → first_refusal (refusals s e) ≡ 0 → (accept s e).answer ≡ (checked s e).answer
@@ -76,7 +77,7 @@ module _ (ts os ps : List ℕ) (q : ReadyQueue) (l : List LogEntry) (o : ℕ) {v
   unfolding refusals unmade header
   show-unmade i =
       let k : (header_at os).made ≤ o = rw g at i in
-      read-refused (store_of ts os ps q l) (Event.show o) 4 (met 5 (leb (header_at os).made o) [] (le-leb (header_at os).made o k))
+      read-refused (store_of ts os ps q l) (Event.show o) Refusal.Unknown (met 5 (leb (header_at os).made o) [] (le-leb (header_at os).made o k))
 
   pub show-made : o < v.made → first_refusal (refusals (store_of ts os ps q l) (Event.show o)) ≡ 0
   unfolding refusals unmade header

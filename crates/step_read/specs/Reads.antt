@@ -1,5 +1,5 @@
 -- What a read shows, as the code answers it.
-use Rattle.std.specs.Prelude.{◌≡◌, ℕ, zero, suc, ◌+◌, List, [], ◌∷◌}
+use Rattle.std.specs.Prelude.{◌≡◌, ℕ, zero, suc, ◌+◌, List, [], ◌∷◌, Result, Ok, Err}
 use Rattle.std.proofs.Math.Option.{Option}
 use Rattle.asyncio.specs.declared.Value.{Value}
 use Rattle.rows.specs.Tables.{place_at}
@@ -8,12 +8,13 @@ use Rattle.machine.specs.Store.{LogEntry, store_of}
 use Rattle.machine.specs.Scheduler.{bit}
 use Rattle.machine.specs.Machine as machine
 use Rattle.machine.specs.Machine.{slot_value}
-use Rattle.contract.specs.Contract.{Words, Slice}
+use Rattle.contract.specs.Contract.{Words}
 use Rattle.exec_switch.specs.Answer.{answer_of}
+use Rattle.exec_switch.specs.Refusal.{refusal_number}
 use Rattle.exec_switch.specs.declared.answer.Answer.{Answer}
+use Rattle.exec_switch.specs.declared.answer.Refusal.{Refusal}
 use Rattle.step_checks.specs.Checked.{checked}
 use Rattle.step_read.specs.declared.Shown.{Shown}
-use Rattle.step_read.specs.declared.Reading.{Reading}
 
 -- n places from i on of a gather that starts at f, by the places' words
 unfoldable pub places_from : List ℕ → ℕ → ℕ → ℕ → ℕ → List (Option Value)
@@ -32,10 +33,14 @@ shown_of ps (Shown.GatherCompleted f n) = machine.Shown.a_gather_completed (plac
 shown_of ps (Shown.GatherFailed e) = machine.Shown.a_gather_failed e
 shown_of ps Shown.Nothing = machine.Shown.nothing
 
+-- what is shown, or why nothing is
+abbrev pub Reading : Type 0
+Reading = Result Shown Refusal
+
 -- the answer
 abbrev pub show_answer : List ℕ → Reading → machine.Answer
-show_answer ps (Reading.Shows x) = machine.Answer.shows (shown_of ps x)
-show_answer ps (Reading.Refused n) = machine.Answer.refused n
+show_answer ps (Ok x) = machine.Answer.shows (shown_of ps x)
+show_answer ps (Err r) = machine.Answer.refused (refusal_number r)
 
 -- The call reads object o of a store that has these objects, whatever the rest of it is: its answer is what the checks from 3 on leave.
 abbrev pub ShowsChecked : Words → ℕ → Reading → Type 0

@@ -7,13 +7,16 @@ ghost use Rattle.machine.specs.Store.{Store};
 ghost use Rattle.machine.specs.Machine.{shown};
 ghost use Rattle.step_read.specs.Reads.{shown_of, ShowsChecked, EagerChecked};
 
-use asyncio::{CoroutineState, Error, ExternalFutureState, GatherState, HeapId, Object, Objects, Value};
-use exec_switch::answer::Answer;
+use asyncio::{
+    CoroutineState, Error, ExternalFutureState, GatherState, HeapId, Object, Objects, Value,
+};
+use exec_switch::answer::{Answer, Refusal};
 use queue::ReadyQueue;
+use rows::tables::{load_header, load_object};
 use scheduler::cleanup::can_await_eagerly;
 
 // What a read of an object shows. The places of a gather are `count` from `first` on; bit i of `open_places` says that place i is open.
-#[derive(Drop)]
+#[derive(Clone, Copy, PartialEq, Eq, Debug)]
 pub enum Shown {
     Coroutine {
         state: CoroutineState,
@@ -36,35 +39,24 @@ pub enum Shown {
     Nothing,
 }
 
-// What is shown, or why nothing is.
-#[derive(Drop)]
-pub enum Reading {
-    Shows(Shown),
-    Refused(u16),
-}
-
+#[tactic(auto, unfolding(machine::specs::Machine::shown))]
 fn show_external(state: ExternalFutureState) -> Shown
     ensures { (s : Store) (c : CallId) → shown_of s.places result ≡ shown s (Object.ExternalFuture c state) }
 {
     match state {
-        ExternalFutureState::Pending {
-            awaiter: _,
-            stored: _,
-        } => Shown::ExternalPending,
+        ExternalFutureState::Pending { .. } => Shown::ExternalPending,
         ExternalFutureState::Resolved(v) => Shown::ExternalResolved(v),
         ExternalFutureState::Failed(e) => Shown::ExternalFailed(e),
     }
 }
 
+#[tactic(auto, unfolding(machine::specs::Machine::shown))]
 fn show_gather(first: u16, count: u16, state: GatherState) -> Shown
     ensures { (s : Store) → shown_of s.places result ≡ shown s (Object.GatherFuture first count state) }
 {
     match state {
         GatherState::Pending => Shown::GatherPending,
-        GatherState::Awaited {
-            awaiter: _,
-            open_places,
-        } => Shown::GatherAwaited {
+        GatherState::Awaited { open_places, .. } => Shown::GatherAwaited {
             first,
             count,
             open_places,
@@ -74,13 +66,14 @@ fn show_gather(first: u16, count: u16, state: GatherState) -> Shown
     }
 }
 
+#[tactic(auto, unfolding(machine::specs::Machine::shown))]
 fn show_object(x: Object) -> Shown
     ensures { (s : Store) → shown_of s.places result ≡ shown s x }
 {
     match x {
         Object::Unmade => Shown::Nothing,
         Object::Coroutine { function, state } => Shown::Coroutine { state, function },
-        Object::ExternalFuture { call: _, state } => show_external(state),
+        Object::ExternalFuture { state, .. } => show_external(state),
         Object::GatherFuture {
             first,
             count,
@@ -90,15 +83,13 @@ fn show_object(x: Object) -> Shown
 }
 
 // What object `o` shows, or 5.
-pub fn show(objects: &Objects, o: u16) -> Reading
+pub fn show(objects: &Objects, o: u16) -> Result<Shown, Refusal>
     ensures { ShowsChecked objects.now o result }
 {
-    let header = rows::tables::load_header(objects);
-    if header.made <= o {
-        return Reading::Refused(5);
+    if load_header(objects).made <= o {
+        return Err(Refusal::Unknown);
     }
-    let x = rows::tables::load_object(objects, HeapId::new(o));
-    Reading::Shows(show_object(x))
+    Ok(show_object(load_object(objects, HeapId::new(o))))
 }
 
 // May the host answer a call at once?

@@ -1,6 +1,5 @@
 use Rattle.machine.specs.Machine.{shown}
 use Rattle.step_read.specs.ReadLaws.{shows-places}
-use Rattle.step_read.proofs.show_gather.Reads as reads
 use Rattle.step_read.proofs.show_gather.Goals as goal
 
 pub returns-in-Pending : goal.returns-in-Pending
