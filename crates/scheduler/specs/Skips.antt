@@ -1,6 +1,8 @@
 -- Where a search may begin: numbers passed over, several at a time.
 use Rattle.std.specs.Prelude.{◌≡◌, Bool, true, false, List, ℕ, zero, suc, ◌+◌, ◌≤◌, ◌<◌}
+use Rattle.asyncio.specs.Limits.{object_limit}
 use Rattle.asyncio.specs.States.{pick}
+use Rattle.asyncio.specs.declared.HeapId.{HeapId}
 use Rattle.asyncio.specs.Kinds.{kind, is_pending_external}
 use Rattle.rows.specs.Tables.{object_at}
 
@@ -17,3 +19,13 @@ any_of p o (suc k) = pick (p o) true (any_of p (o + 1) k)
 pub record BeginsAt (p : ℕ → Bool) (n r : ℕ) : Type 0 where
   pub within : r ≤ n
   pub none_before : (i : ℕ) → i < r → p i ≡ false
+
+-- ---- a test that is passed in, by what its calls need and answer
+
+-- it may be called on each object
+abbrev pub CallableOnObjects : (HeapId → Type 0) → Type 0
+CallableOnObjects pre = (h : HeapId) → h.0 < object_limit → pre h
+
+-- and answers p there
+abbrev pub TestsObjects : (HeapId → Bool → Type 0) → (ℕ → Bool) → Type 0
+TestsObjects post p = (h : HeapId) (r : Bool) → h.0 < object_limit → post h r → r ≡ p h.0
