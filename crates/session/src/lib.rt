@@ -2,7 +2,7 @@
 #![tactic(auto)]
 
 pub use asyncio::{CallId, CoroutineState, Error, HeapId, TaskId, Value};
-pub use exec_switch::answer::{Answer, Stepped};
+pub use exec_switch::answer::{Answer, Refusal, Stepped};
 pub use exec_switch::control::{Control, How};
 pub use queue::ReadyQueue;
 pub use rows::total::result_at;
@@ -13,4 +13,4 @@ pub use session_make::{call, coroutine, gather, pending, settled};
 pub use session_reads::{eager, show};
 pub use session_run::{await_object, complete, fail};
 pub use step_event::{Answered, Event};
-pub use step_read::{Reading, Shown};
+pub use step_read::Shown;

@@ -1,11 +1,11 @@
 // Any event on any memory: refusals 1 and 2, then `step_event::step`.
 #![tactic(auto)]
 
-ghost use Rattle.std.specs.Prelude.{[], ◌∷◌};
+ghost use Rattle.std.specs.Prelude.{[]};
 ghost use Rattle.step_event.specs.EventOf.{event_of};
 ghost use Rattle.step_event.specs.LentStep.{LentStep};
 
-use exec_switch::answer::Answer;
+use exec_switch::answer::{Answer, Refusal};
 use queue::ReadyQueue;
 use sound::is_sound;
 use step_checks::lent::lengths_right;
@@ -25,21 +25,26 @@ pub fn dispatch(
 ) -> Answered
     ensures { LentStep tasks objects places calls queue (event_of items.now results.now event) result }
 {
-    if lengths_right(tasks, objects, places, calls) {
-        if is_sound(queue, tasks, objects, places) {
-            return step(tasks, objects, places, calls, queue, event, items, results);
-        }
+    if !lengths_right(tasks, objects, places, calls) {
         return Answered {
             queue,
-            answer: Answer::Refused(2),
+            answer: Answer::Refused(Refusal::WrongLength),
             calls: 0,
         };
     }
-    Answered {
+    if !is_sound(
         queue,
-        answer: Answer::Refused(1),
-        calls: 0,
+        tasks.as_array().unwrap(),
+        objects.as_array().unwrap(),
+        places.as_array().unwrap(),
+    ) {
+        return Answered {
+            queue,
+            answer: Answer::Refused(Refusal::NotSound),
+            calls: 0,
+        };
     }
+    step(tasks, objects, places, calls, queue, event, items, results)
 }
 
 // The same for an event that has no items and no results.
@@ -51,9 +56,7 @@ pub fn dispatch_plain(
     queue: ReadyQueue,
     event: Event,
 ) -> Answered
-    ensures { LentStep tasks objects places calls queue (event_of (0 ∷ []) (0 ∷ []) event) result }
+    ensures { LentStep tasks objects places calls queue (event_of [] [] event) result }
 {
-    dispatch(
-        tasks, objects, places, calls, queue, event, &[0; 1], &[0; 1],
-    )
+    dispatch(tasks, objects, places, calls, queue, event, &[], &[])
 }

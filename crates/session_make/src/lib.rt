@@ -7,7 +7,7 @@
 ghost use Rattle.machine.specs.Machine as machine;
 ghost use Rattle.step_event.specs.LentStep.{LentStep};
 
-use asyncio::{Value};
+use asyncio::Value;
 use queue::ReadyQueue;
 use session_dispatch::{dispatch, dispatch_plain};
 use step_event::{Answered, Event};
@@ -94,14 +94,5 @@ pub fn gather(
 ) -> Answered
     ensures { LentStep tasks objects places calls queue (machine.Event.gather items.now) result }
 {
-    dispatch(
-        tasks,
-        objects,
-        places,
-        calls,
-        queue,
-        Event::Gather,
-        items,
-        &[0; 1],
-    )
+    dispatch(tasks, objects, places, calls, queue, Event::Gather, items, &[])
 }

@@ -1,5 +1,6 @@
 -- An event on lent memory: refused for a length, refused for a store that is not sound, or a step of the machine.
-use Rattle.std.specs.Prelude.{◌≡◌, Bool, true, false, not, ◌&&◌, ℕ, ◌≤◌, eqb, leb, length}
+use Rattle.std.specs.Prelude.{◌≡◌, Bool, true, false, not, ◌&&◌, ℕ, ◌≤◌, eqb, leb, length, Option, Some, MatchOption}
+use Rattle.std.specs.Array.{IsWholeChunk}
 use Rattle.std.proofs.Math.Path.{refl, sym, ap}
 use Rattle.std.proofs.Common.{◌∙◌, true≢false, arith, eqb-true, leb-true}
 use mathlib.Core.List.{List, [], ◌∷◌}
@@ -72,6 +73,10 @@ lengths_have ts os ps cs e i =
     let a = and-true (are_slices ts os ps) (leb object_limit cs) (sym e ∙ i) in
     let b = slices_have ts os ps refl a.0 in
     (b.0, b.1, b.2, leb-true object_limit cs a.1)
+
+-- the array that a slice of the right length is lent as has its words
+pub array-words : {Y : Type 0} (now : Y → List ℕ) {xs : List ℕ} (P : Type 0) (n : ℕ) {r : Option Y} {y : Y} → r ≡ Some y → MatchOption r P (λ z. IsWholeChunk xs (now z) n) → now y ≡ xs
+array-words now {xs} P n {r} {y} e m = let w : IsWholeChunk xs (now y) n = rw e at m in w.same
 
 -- ---- an event
 

@@ -1,5 +1,5 @@
 // The tests of the table of refusals.
-ghost use Rattle.std.specs.Prelude.{◌≡◌, not, List, ℕ, ◌≤◌, ◌+◌, leb, length};
+ghost use Rattle.std.specs.Prelude.{◌≡◌, not, List, ℕ, ◌≤◌, leb};
 ghost use Rattle.asyncio.specs.Limits.{object_limit, call_limit};
 ghost use Rattle.rows.specs.Tables.{header_at};
 ghost use Rattle.queue.specs.declared.ReadyQueue.{ReadyQueue};
@@ -7,10 +7,11 @@ ghost use Rattle.machine.specs.Store.{LogEntry};
 ghost use Rattle.machine.specs.Scheduler.{live};
 ghost use Rattle.step_checks.specs.Checked.{turn_of, wait_of};
 ghost use Rattle.machine.specs.Machine.{any_of, result_unknown, bad_result};
-ghost use Rattle.exec_futures.specs.Results.{result_at, results_in};
+ghost use Rattle.exec_futures.specs.Results.{result_of, results_in};
 ghost use Rattle.contract.specs.Contract.{kept, before, ReadsObjects};
 
 use asyncio::{CALLS, HeapId, Moment, OBJECTS, Objects, RESULT_BYTES, TaskId, Tasks, U32_LIMIT};
+use exec_futures::results::{FutureResult, ResultKind};
 use exec_switch::answer::Refusal;
 use rows::parts::{kind_at, state_at};
 use rows::tables::load_header;
@@ -66,19 +67,16 @@ pub fn not_live(tasks: &Tasks, objects: &Objects, t: u16) -> bool
     load_header(objects).next <= t || !state_at(tasks, TaskId::new(t)).is_live()
 }
 
-// Is the result at byte `at` a returned list of a gather that is not completed?
-fn result_unknown(objects: &Objects, made: u16, results: &[u8], at: usize) -> bool
-    requires { (made ≤ object_limit) × (at + 14 ≤ length results.now) × ((header_at objects.now).made ≡ made) }
+// Is it a returned list of a gather that is not completed?
+fn result_unknown(objects: &Objects, made: u16, r: FutureResult) -> bool
+    requires { (made ≤ object_limit) × ((header_at objects.now).made ≡ made) }
     ensures { ReadsObjects objects.now
-        (λ s. result_unknown s (result_at results.now at)) result }
+        (λ s. result_unknown s (result_of r)) result }
 {
-    let kind = endian::u8_at(results, at + 4);
-    let tag = endian::u8_at(results, at + 5);
-    if kind != 0 || tag != 1 {
+    if r.kind != ResultKind::Return as u8 || r.tag != 1 {
         return false;
     }
-    let g = endian::u64_at(results, at + 6);
-    made as u64 <= g || !kind_at(objects, HeapId::new(g as u16)).is_completed()
+    made as u64 <= r.number || !kind_at(objects, HeapId::new(r.number as u16)).is_completed()
 }
 
 // Is one of the results such a list?
@@ -88,29 +86,29 @@ pub fn any_unknown(objects: &Objects, results: &[u8]) -> bool
 {
     let header = load_header(objects);
     for i in 0..results.len() / RESULT_BYTES {
-        if result_unknown(objects, header.made, results, i * RESULT_BYTES) {
+        if result_unknown(objects, header.made, FutureResult::at(results, i)) {
             return true;
         }
     }
     false
 }
 
-// Has the result at byte `at` a kind above 4, a tag above 1, or an error number of 2^32 or more?
-fn bad_result(results: &[u8], at: usize) -> bool
-    requires { at + 14 ≤ length results.now }
-    ensures { result ≡ bad_result (result_at results.now at) }
+// Has it no kind, a tag above 1, or an error number of 2^32 or more?
+fn bad_result(r: FutureResult) -> bool
+    ensures { result ≡ bad_result (result_of r) }
 {
-    let kind = endian::u8_at(results, at + 4);
-    let tag = endian::u8_at(results, at + 5);
-    4 < kind || 1 < tag || kind == 1 && U32_LIMIT <= endian::u64_at(results, at + 6)
+    if ResultKind::from_byte(r.kind).is_none() || 1 < r.tag {
+        return true;
+    }
+    r.kind == ResultKind::Error as u8 && U32_LIMIT <= r.number
 }
 
-// Has one of the results?
+// Is one of the results such a one?
 pub fn any_bad(results: &[u8]) -> bool
     ensures { result ≡ any_of bad_result (results_in results.now) }
 {
     for i in 0..results.len() / RESULT_BYTES {
-        if bad_result(results, i * RESULT_BYTES) {
+        if bad_result(FutureResult::at(results, i)) {
             return true;
         }
     }

@@ -1,27 +1,27 @@
-use Rattle.std.specs.Prelude.{◌≡◌, true, ◌<◌}
-use mathlib.Core.Path.{sym, ◌∙◌}
-use native.Mathlib.Omega.{arith}
-use borrow.Author.Tests.{lt-ltb, ne_eqb}
-use Rattle.machine.specs.Machine.{bad_result}
-use Rattle.exec_futures.specs.Results.{result_at}
+use mathlib.Core.Path.{sym, ap, ◌∙◌}
+use Rattle.std.specs.Prelude.{not, is_some}
+use borrow.Author.Tests.{ne_eqb}
+use Rattle.exec_futures.specs.Results.{result_of}
 use Rattle.step_checks.specs.TestLaws.{bad_kind, bad_tag, bad_number, good-kind}
+use Rattle.step_checks.proofs.KindLaws.{kind-none, kind-some}
 use Rattle.step_checks.proofs.refusals.bad_result.Goals as goal
-use Rattle.step_checks.proofs.refusals.bad_result.Goals.{then-kind-gt4, else-kind-gt4}
+use Rattle.step_checks.proofs.refusals.bad_result.Goals.{then-is_none-via-then-is_none, then-is_none-via-else-is_none+then-r-gt1}
 
-pub returns-then-tag-gt1 : goal.returns-then-tag-gt1
-returns-then-tag-gt1 c =
-    let r = result_at c.args.results.now c.args.at in
-    elim c.if-kind-gt4.branch [
-      | then-kind-gt4 w ↦ let bad : true ≡ bad_result r = bad_kind r (omega (arith, w.if-kind-gt4.true, c.u8_at-kind.ensures.0)) in cc
-      | else-kind-gt4 w ↦
-          let above : 1 < c.u8_at-tag.result = omega (arith, w.if-kind-gt4.false, c.if-tag-gt1.either) in
-          let is_above = lt-ltb 1 c.u8_at-tag.result above in
-          let bad : true ≡ bad_result r = bad_tag r (omega (arith, w.if-kind-gt4.false, c.u8_at-kind.ensures.0)) (omega (arith, above, c.u8_at-tag.ensures.0)) in
-          cc
+pub returns-then-is_none : goal.returns-then-is_none
+returns-then-is_none c =
+    let r = result_of c.args.r in
+    let known = sym (ap is_some c.from_byte.ensures) ∙ c.is_none.ensures in
+    elim c.then-is_none.branch [
+      | then-is_none-via-then-is_none w ↦ bad_kind r (kind-none _ (known ∙ ap not w.if-is_none.true))
+      | then-is_none-via-else-is_none+then-r-gt1 w ↦ bad_tag r (kind-some _ (known ∙ ap not w.if-is_none.false)) w.if-r-gt1.true
     ]
 
-pub returns-then-kind-eq1 : goal.returns-then-kind-eq1
-returns-then-kind-eq1 c = rw c.u64_at.ensures (bad_number (result_at c.args.results.now c.args.at) (omega (arith, c.if-tag-gt1.false.0, c.u8_at-kind.ensures.0)) (omega (arith, c.if-tag-gt1.false.1, c.u8_at-tag.ensures.0)) (sym c.u8_at-kind.ensures.0 ∙ c.if-kind-eq1.true))
+pub returns-then-r : goal.returns-then-r
+returns-then-r c =
+    let known = sym (ap is_some c.from_byte.ensures) ∙ c.is_none.ensures in
+    bad_number (result_of c.args.r) (kind-some _ (known ∙ ap not c.if-is_none.false)) c.if-r-gt1.false c.if-r.true
 
-pub returns-else-kind-eq1 : goal.returns-else-kind-eq1
-returns-else-kind-eq1 c = ne_eqb _ _ c.if-kind-eq1.false ∙ good-kind (result_at c.args.results.now c.args.at) (omega (arith, c.if-tag-gt1.false.0, c.u8_at-kind.ensures.0)) (omega (arith, c.if-tag-gt1.false.1, c.u8_at-tag.ensures.0)) (λ z. c.if-kind-eq1.false (c.u8_at-kind.ensures.0 ∙ z))
+pub returns-else-r : goal.returns-else-r
+returns-else-r c =
+    let known = sym (ap is_some c.from_byte.ensures) ∙ c.is_none.ensures in
+    ne_eqb _ _ c.if-r.false ∙ good-kind (result_of c.args.r) (kind-some _ (known ∙ ap not c.if-is_none.false)) c.if-r-gt1.false c.if-r.false
