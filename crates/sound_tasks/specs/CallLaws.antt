@@ -4,14 +4,13 @@ use Rattle.std.proofs.Math.Path.{sym}
 use Rattle.std.proofs.Common.{ap, ◌∙◌, ⊎_elim, eq-or-lt_of_le, arith, eq-eqb, ne_eqb, eqb-true}
 use Rattle.std.proofs.Math.Bool.{not}
 use Rattle.std.proofs.Math.Option.{Option, none, some}
+use Rattle.std.specs.Prelude.{None, Some}
+use Rattle.std.specs.Prelude as rust
 use Rattle.std.proofs.lemmas.Bool.{eqb-false}
 use Rattle.asyncio.specs.States.{pick}
 use Rattle.asyncio.specs.Kinds.{kind, each_object, is_pending_external}
 use Rattle.asyncio.specs.Parts.{call_of}
 use Rattle.asyncio.specs.declared.CallId.{CallId}
-use Rattle.asyncio.specs.declared.CoroutineState.{CoroutineState}
-use Rattle.asyncio.specs.declared.ExternalFutureState.{ExternalFutureState}
-use Rattle.asyncio.specs.declared.GatherState.{GatherState}
 use Rattle.asyncio.specs.declared.Header.{Header}
 use Rattle.asyncio.specs.declared.Kind.{Kind}
 use Rattle.asyncio.specs.declared.Moment.{Moment}
@@ -31,27 +30,68 @@ number_of (some p) = p.call.0 + 1
 unfoldable pub call_number : List ℕ → ℕ → ℕ
 call_number os o = number_of (as_pending (object_at os o))
 
+-- the call of object o, if it is a pending external
+unfoldable pub call_of_pending : Option PendingExternal → rust.Option CallId
+call_of_pending none = None
+call_of_pending (some p) = Some p.call
+
+unfoldable pub pending_call : List ℕ → ℕ → rust.Option CallId
+pending_call os o = call_of_pending (as_pending (object_at os o))
+
 -- object p has another call than c
 unfoldable pub other_call : List ℕ → ℕ → ℕ → Bool
 other_call os c p = not (eqb (call_number os p) c)
 
 -- ---- by kind
 
-number_by : (x : Object) → number_of (as_pending x) ≡ pick (is_pending_external (kind x)) ((call_of x).0 + 1) 0
-unfolding number_of as_pending kind call_of
-number_by x =
-    each_object (λ (x : Object). number_of (as_pending x) ≡ pick (is_pending_external (kind x)) ((call_of x).0 + 1) 0)
+pending_by : (x : Object) → call_of_pending (as_pending x) ≡ pick (is_pending_external (kind x)) (Some (call_of x)) None
+unfolding call_of_pending as_pending kind call_of
+pending_by x =
+    each_object (λ (x : Object). call_of_pending (as_pending x) ≡ pick (is_pending_external (kind x)) (Some (call_of x)) None)
     refl (λ f. refl) (λ f. refl) (λ f. refl) (λ c w x. refl) (λ c v. refl) (λ c e. refl) (λ i n. refl) (λ i n w m. refl) (λ i n. refl)
     (λ i n e. refl) x
 
 module _ (os : List ℕ) (o : ℕ) {k : Kind} (e : k ≡ kind (object_at os o)) where
-  pub number-pending : {c : CallId} {n : ℕ} → is_pending_external k ≡ true → c ≡ call_of (object_at os o) → n ≡ c.0 → n + 1 ≡ call_number os o
-  unfolding call_number
-  number-pending t q w = rw (number_by (object_at os o), ← e, t, ← q, w)
+  pub call-pending : {c : CallId} → is_pending_external k ≡ true → c ≡ call_of (object_at os o) → Some c ≡ pending_call os o
+  unfolding pending_call
+  call-pending t q = rw (pending_by (object_at os o), ← e, t, ← q)
 
-  pub number-none : is_pending_external k ≡ false → 0 ≡ call_number os o
-  unfolding call_number
-  number-none t = rw (number_by (object_at os o), ← e, t)
+  pub call-none : is_pending_external k ≡ false → None ≡ pending_call os o
+  unfolding pending_call
+  call-none t = rw (pending_by (object_at os o), ← e, t)
+
+-- the number of a call that was read
+told : (p : Option PendingExternal) {c : CallId} → call_of_pending p ≡ Some c → c.0 + 1 ≡ number_of p
+unfolding call_of_pending number_of
+told none e = cc
+told (some p) {c} e = let h : p.call ≡ c = cc in rw h
+
+told_none : (p : Option PendingExternal) → call_of_pending p ≡ None → 0 ≡ number_of p
+unfolding call_of_pending number_of
+told_none none e = refl
+told_none (some p) e = cc
+
+pub number_told : (os : List ℕ) (o : ℕ) {c : CallId} {x : rust.Option CallId} → x ≡ pending_call os o → x ≡ Some c → c.0 + 1 ≡ call_number os o
+unfolding pending_call call_number
+number_told os o e h = told (as_pending (object_at os o)) (sym e ∙ h)
+
+pub number_none : (os : List ℕ) (o : ℕ) {x : rust.Option CallId} → x ≡ pending_call os o → x ≡ None → 0 ≡ call_number os o
+unfolding pending_call call_number
+number_none os o e h = told_none (as_pending (object_at os o)) (sym e ∙ h)
+
+-- a number that was read, against another call's
+module _ (os : List ℕ) (o : ℕ) (c : CallId) {x : rust.Option CallId} (e : x ≡ pending_call os o) where
+  pub other_none : x ≡ None → true ≡ other_call os (c.0 + 1) o
+  unfolding other_call
+  other_none h = rw (← number_none os o e h, ne_eqb 0 (c.0 + 1) (λ q. omega arith))
+
+  pub other_told : {d : CallId} {b : Bool} → x ≡ Some d → b ≡ not (eqb d.0 c.0) → b ≡ other_call os (c.0 + 1) o
+  unfolding other_call
+  other_told {d} h q = q ∙ ap not (by (eqb d.0 c.0) refl) ∙ rw (number_told os o e h)
+    where
+      by : (t : Bool) → eqb d.0 c.0 ≡ t → t ≡ eqb (d.0 + 1) (c.0 + 1)
+      by true h = sym (eq-eqb _ _ (ap (λ (n : ℕ). n + 1) (eqb-true d.0 c.0 h)))
+      by false h = sym (ne_eqb _ _ (λ (s : d.0 + 1 ≡ c.0 + 1). eqb-false d.0 c.0 h (omega arith)))
 
 -- ---- the same call
 
@@ -104,11 +144,17 @@ call_high os i top {c} e l h = call_looked os i e (λ z. omega arith) (sym (all_
 
 -- ---- the session's moment
 
+going : (m : Moment) → (m ≡ Moment.Ended → ⊥) → is_ended m ≡ false
+unfolding is_ended
+going (Moment.Running t) n = refl
+going Moment.Waiting n = refl
+going Moment.Ended n = absurd (n refl)
+
 module _ (h : Header) (os : ℕ → Object) where
   pub distinct_ended : h.moment ≡ Moment.Ended → true ≡ calls_distinct h os
   unfolding calls_distinct is_ended
   distinct_ended e = rw e
 
-  pub distinct_told : {m : Moment} {r : Bool} → m ≡ h.moment → is_ended m ≡ false → r ≡ all_below h.made (call_new os) → r ≡ calls_distinct h os
+  pub distinct_going : {r : Bool} → (h.moment ≡ Moment.Ended → ⊥) → r ≡ all_below h.made (call_new os) → r ≡ calls_distinct h os
   unfolding calls_distinct
-  distinct_told e f q = rw (← e, f) q
+  distinct_going n q = rw (going h.moment n) q

@@ -1,5 +1,5 @@
 -- Clause 7: one task against a table of the coroutines that live tasks drive: a law for each way through a turn.
-use Rattle.std.specs.Prelude.{◌≡◌, refl, Bool, true, false, not, List, ℕ, ◌+◌, ◌<◌, eqb, get_or, set}
+use Rattle.std.specs.Prelude.{◌≡◌, refl, Bool, true, false, not, List, ℕ, ◌+◌, eqb, get_or, set}
 use Rattle.std.proofs.Common.{sym}
 use borrow.Author.Tests.{eq-eqb, ne_eqb}
 use Rattle.asyncio.specs.Limits.{object_limit}
@@ -37,7 +37,7 @@ module _ (ts : List ℕ) (t : ℕ) where
   unfolding is_task_of_at is_task_of ◌and◌
   live-is-task-of z e r f k = rw (ne_eqb t 0 z, ← e, r, ← f)
 
-module _ (ts seen : List ℕ) (t : ℕ) (m : Marks seen object_limit t (driven ts)) where
+module _ (ts : List ℕ) (seen : List Bool) (t : ℕ) (m : Marks seen object_limit t (driven ts)) where
   pub task_of_main : t ≡ 0 → true ≡ sole_task (task_at ts) t
   task_of_main z = idle ts t (main-is-task-of ts t z)
 
@@ -52,16 +52,16 @@ module _ (ts seen : List ℕ) (t : ℕ) (m : Marks seen object_limit t (driven t
     marks_dead r = marks_skip object_limit (driven ts) seen t m (dead-is-task-of ts t e r)
 
     module _ (z : t ≡ 0 → ⊥) (r : is_live s ≡ true) {c : HeapId} (f : c ≡ (task_at ts t).coroutine) where
-      sole-by : sole_task (task_at ts) t ≡ eqb (get_or seen c.0 0) 0
+      sole-by : sole_task (task_at ts) t ≡ not (get_or seen c.0 false)
       unfolding sole_task implies
       sole-by =
           rw (← f, live-is-task-of ts t z e r f c.0, eq-eqb c.0 c.0 refl) (sym (m.marked c.0 (coroutine_fits ts t f)))
 
-      pub task_of_second : (get_or seen c.0 0 ≡ 0 → ⊥) → false ≡ sole_task (task_at ts) t
-      task_of_second ne = rw (sole-by, ne_eqb _ 0 ne)
+      pub task_of_second : get_or seen c.0 false ≡ true → false ≡ sole_task (task_at ts) t
+      task_of_second ne = rw (sole-by, ne)
 
-      pub task_of_first : get_or seen c.0 0 ≡ 0 → true ≡ sole_task (task_at ts) t
-      task_of_first q = rw (sole-by, eq-eqb _ 0 q)
+      pub task_of_first : get_or seen c.0 false ≡ false → true ≡ sole_task (task_at ts) t
+      task_of_first q = rw (sole-by, q)
 
-      pub marks_live : Marks (set seen c.0 1) object_limit (t + 1) (driven ts)
+      pub marks_live : Marks (set seen c.0 true) object_limit (t + 1) (driven ts)
       marks_live = marks_turn object_limit (driven ts) seen t m c.0 (coroutine_fits ts t f) (live-is-task-of ts t z e r f)

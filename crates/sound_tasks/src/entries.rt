@@ -5,31 +5,20 @@ ghost use Rattle.rows.specs.Slices.{task_in};
 ghost use Rattle.machine.specs.Sound.{queue_ready};
 
 use asyncio::{TASKS, TaskId, Tasks};
+use queue::ReadyQueue;
 use rows::parts::state_at;
 
-// Of the first `n` places: each entry is a task below the next number, ready, and not seen before.
-pub fn queue_ready(ids: [u16; TASKS], n: usize, next: u16, tasks: &Tasks) -> bool
-    requires { (n ≤ task_limit) × (next ≤ task_limit) }
-    ensures { result ≡ queue_ready next (task_in tasks) (take n ids) }
+// Each entry is a task below the next number, ready, and not seen before.
+pub fn queue_ready(queue: &ReadyQueue, next: u16, tasks: &Tasks) -> bool
+    requires { (queue.now.len ≤ task_limit) × (next ≤ task_limit) }
+    ensures { result ≡ queue_ready next (task_in tasks) (take queue.now.len queue.now.ids) }
 {
-    let mut seen = [0u8; TASKS];
-    let mut i: usize = 0;
-    while i < n {
-        let t = ids[i];
-        if next <= t {
+    let mut seen = [false; TASKS];
+    for &t in &queue.ids[..queue.len] {
+        if next <= t || seen[t as usize] || !state_at(tasks, TaskId(t)).is_ready() {
             return false;
         }
-        let k = t as usize;
-        if seen[k] != 0 {
-            return false;
-        }
-        let state = state_at(tasks, TaskId::new(t));
-        if state.is_ready() {
-            seen[k] = 1;
-            i += 1;
-        } else {
-            return false;
-        }
+        seen[t as usize] = true;
     }
     true
 }

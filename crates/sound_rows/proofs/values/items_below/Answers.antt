@@ -1,5 +1,5 @@
 use Rattle.std.proofs.Common.{refl, rules}
-use Rattle.sound_words.specs.Loops.{all_called}
+use Rattle.sound_words.specs.Called.{all_called}
 use Rattle.sound_rows.specs.ValueLaws.{items-read}
 use Rattle.std.proofs.iter.Serving.{serving}
 use Rattle.rows.specs.TableLaws.{places_fit}

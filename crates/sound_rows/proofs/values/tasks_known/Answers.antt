@@ -1,5 +1,5 @@
 use Rattle.std.proofs.Common.{refl, rules}
-use Rattle.sound_words.specs.Loops.{all_called}
+use Rattle.sound_words.specs.Called.{all_called}
 use Rattle.sound_rows.proofs.values.tasks_known.Goals as goal
 
 pub returns : goal.returns

@@ -1,15 +1,16 @@
-use mathlib.Core.Path.{refl}
-use Rattle.machine.specs.Sound.{is_ended}
-use Rattle.sound_tasks.specs.CallLaws.{distinct_told, distinct_ended}
+use mathlib.Core.Path.{◌∙◌}
+use Rattle.sound_tasks.specs.CallLaws.{distinct_ended, distinct_going}
 use Rattle.sound_tasks.proofs.calls.calls_distinct.Goals as goal
+use Rattle.sound_tasks.proofs.calls.calls_distinct.Goals.{in-Ended, in_default}
 
-pub returns-in-Running : goal.returns-in-Running
-unfolding is_ended
-returns-in-Running c = distinct_told _ _ refl (rw c.in-Running.is) c.calls_new.ensures
+pub returns-then-matches : goal.returns-then-matches
+returns-then-matches c = elim c.match-matches.branch [
+  | in-Ended w ↦ w.matches-is ∙ distinct_ended _ _ w.in-Ended.is
+  | in_default w ↦ cc
+]
 
-pub returns-in-Waiting : goal.returns-in-Waiting
-unfolding is_ended
-returns-in-Waiting c = distinct_told _ _ refl (rw c.in-Waiting.is) c.calls_new-in-Waiting.ensures
-
-pub returns-in-Ended : goal.returns-in-Ended
-returns-in-Ended c = distinct_ended _ _ c.in-Ended.is
+pub returns-else-matches : goal.returns-else-matches
+returns-else-matches c = elim c.match-matches.branch [
+  | in-Ended w ↦ cc
+  | in_default w ↦ distinct_going _ _ w.in_default.not-Ended c.calls_new.ensures
+]
