@@ -1,5 +1,5 @@
 -- The beginning of a session.
-use Rattle.std.specs.Prelude.{◌≡◌, refl, Bool, true, false, ℕ, zero, suc, ◌+◌, ◌≤◌, ◌<◌, length, replicate, take, set}
+use Rattle.std.specs.Prelude.{◌≡◌, refl, Bool, true, false, ℕ, zero, suc, ◌+◌, ◌<◌, length, replicate, take, set}
 use Rattle.std.proofs.Math.Path.{sym, ap}
 use Rattle.std.proofs.Common.{◌∙◌, add-one, take-suc-set}
 use mathlib.Core.List.{List, [], ◌∷◌, ◌++◌}
@@ -14,6 +14,7 @@ use Rattle.machine.specs.Machine.{Step}
 use Rattle.machine.specs.Lent.{slices_right, lent_begin}
 use Rattle.exec_switch.specs.Answer.{stepped_of}
 use Rattle.exec_switch.specs.declared.answer.Answer.{Answer}
+use Rattle.exec_switch.specs.declared.answer.Refusal.{Refusal}
 use Rattle.step_checks.specs.Lent.{are_slices}
 use Rattle.session_begin.specs.Begin.{main_header, main_task}
 
@@ -35,7 +36,7 @@ clear_end ws i n e h r =
 -- ---- a fresh session
 
 module _ (ts os ps : List ℕ) (q : ReadyQueue) (l : List LogEntry) {b : Bool} (g : b ≡ are_slices (length ts) (length os) (length ps)) where
-  pub begin_refused : b ≡ false → stepped_of (store_of ts os ps q (lent_begin (store_of ts os ps q l)).store.log) (Answer.Refused 1) ≡ lent_begin (store_of ts os ps q l)
+  pub begin_refused : b ≡ false → stepped_of (store_of ts os ps q (lent_begin (store_of ts os ps q l)).store.log) (Answer.Refused Refusal.WrongLength) ≡ lent_begin (store_of ts os ps q l)
   unfolding lent_begin slices_right
   begin_refused i = rw (sym g ∙ i)
 

@@ -1,25 +1,15 @@
 // The beginning of a session: it meets only refusal 1, and overwrites the rest.
 #![tactic(auto)]
 
-ghost use Rattle.std.specs.Prelude.{◌≡◌, length, replicate};
 ghost use Rattle.session_begin.specs.Begin.{StoresMain, LentBegin};
 
-use asyncio::{Awaiter, Header, HeapId, Moment, Objects, Task, TaskId, TaskState, Tasks};
-use exec_switch::answer::{Answer, Stepped};
+use asyncio::{
+    Awaiter, Header, HeapId, Moment, OBJECTS_LEN, Objects, PLACES_LEN, Places, TASKS_LEN, Task,
+    TaskId, TaskState, Tasks,
+};
+use exec_switch::answer::{Answer, Refusal, Stepped};
 use queue::ReadyQueue;
 use step_checks::lent::slices_right;
-
-// All words 0.
-fn clear(words: &mut [u64])
-    ensures { words.new ≡ replicate (length words.old) 0 }
-{
-    let n = words.len();
-    let mut i: usize = 0;
-    while i < n {
-        words[i] = 0;
-        i += 1;
-    }
-}
 
 // Main runs, and nothing else exists.
 fn store_main(tasks: &mut Tasks, objects: &mut Objects)
@@ -56,18 +46,21 @@ pub fn begin(
 ) -> Stepped
     ensures { LentBegin tasks objects places queue result }
 {
-    if slices_right(tasks, objects, places) {
-        clear(tasks);
-        clear(objects);
-        clear(places);
-        store_main(tasks, objects);
+    if !slices_right(tasks, objects, places) {
         return Stepped {
-            queue: ReadyQueue::new(),
-            answer: Answer::Done,
+            queue,
+            answer: Answer::Refused(Refusal::WrongLength),
         };
     }
+    let store_tasks: &mut Tasks = tasks.as_mut_array().unwrap();
+    let store_objects: &mut Objects = objects.as_mut_array().unwrap();
+    let store_places: &mut Places = places.as_mut_array().unwrap();
+    *store_tasks = [0; TASKS_LEN];
+    *store_objects = [0; OBJECTS_LEN];
+    *store_places = [0; PLACES_LEN];
+    store_main(store_tasks, store_objects);
     Stepped {
-        queue,
-        answer: Answer::Refused(1),
+        queue: ReadyQueue::new(),
+        answer: Answer::Done,
     }
 }
