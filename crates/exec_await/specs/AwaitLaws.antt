@@ -3,7 +3,6 @@ use Rattle.std.specs.Prelude.{◌≡◌, ℕ}
 use Rattle.std.proofs.Math.Path.{refl}
 use Rattle.std.proofs.Common.{sym, ap, ◌∙◌}
 use mathlib.Core.List.{List, ◌∷◌}
-use Rattle.asyncio.specs.Numbers.{task_id}
 use Rattle.asyncio.specs.declared.CallId.{CallId}
 use Rattle.asyncio.specs.declared.HeapId.{HeapId}
 use Rattle.asyncio.specs.declared.TaskId.{TaskId}
@@ -27,7 +26,6 @@ use Rattle.exec_commit.specs.Frames.{CommitResult, commit_result, result_of}
 use Rattle.exec_poll.specs.declared.item.Poll.{Poll}
 use Rattle.exec_switch.specs.Control.{switched_of, awaited_of}
 use Rattle.exec_switch.specs.LogLaws.{same-await}
-use Rattle.exec_switch.specs.declared.control.How.{How}
 use Rattle.exec_switch.specs.declared.control.Control.{Control}
 
 module _ (ts os ps : List ℕ) (q : ReadyQueue) (l : List LogEntry) (t : TaskId) (o : HeapId) where

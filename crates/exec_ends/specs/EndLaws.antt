@@ -1,8 +1,8 @@
 -- The ways through handle_task_completion, complete, fail and resume_with_resolved_futures, in the shape of what the code knows there.
-use Rattle.std.specs.Prelude.{◌≡◌, Bool, true, false, List, [], ◌∷◌, ℕ, ◌<◌, eqb, length, None, Some}
+use Rattle.std.specs.Prelude.{◌≡◌, Bool, true, false, List, [], ◌∷◌, ℕ, ◌<◌, length, None, Some}
 use Rattle.std.proofs.Math.Path.{refl}
 use Rattle.std.proofs.Common.{sym, ap, ◌∙◌, arith, eq-eqb, ne_eqb}
-use Rattle.std.proofs.Math.Option.{Option, none, some}
+use Rattle.std.proofs.Math.Option.{some}
 use Rattle.asyncio.specs.Limits.{task_limit, tasks_length, objects_length, places_length}
 use Rattle.asyncio.specs.Ranges.{AwaiterFits}
 use Rattle.asyncio.specs.declared.Value.{Value}
@@ -21,8 +21,7 @@ use Rattle.machine.specs.Delivery.{Delivery, deliver_awaiter_success}
 use Rattle.machine.specs.Events.{Switched, waits, completed, resume_after_task_exit, resume_next, activate, handle_task_failure, handle_task_completion}
 use Rattle.machine.specs.Machine as machine
 use Rattle.machine.specs.Machine.{Step, is_empty, switched, end_main, task_completes, task_fails, repeat_wait, resume_with_resolved_futures}
-use Rattle.machine_laws.specs.Views.{Sized}
-use Rattle.machine_laws.specs.WokenLaws.{WokenFits, success_woken}
+use Rattle.machine_laws.specs.WokenLaws.{success_woken}
 use Rattle.exec_switch.specs.Control.{switched_of, FoundFits}
 use Rattle.exec_switch.specs.LogLaws.{same_switch, same_step}
 use Rattle.exec_switch.specs.Answer.{stepped_of}

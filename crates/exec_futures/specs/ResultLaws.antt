@@ -1,5 +1,5 @@
 -- The ways through apply_result and the loop of apply_future_results, in the shape of what the code knows there.
-use Rattle.std.specs.Prelude.{◌≡◌, List, [], ◌∷◌, ℕ, zero, suc, ◌+◌, ◌*◌, ◌/◌, ◌≤◌, eqb, length, Bool, true, false, Option, None, Some, unwrap_or}
+use Rattle.std.specs.Prelude.{◌≡◌, List, ℕ, zero, suc, ◌+◌, ◌*◌, ◌/◌, ◌≤◌, eqb, length, Bool, true, false, Option, None, Some, unwrap_or}
 use Rattle.std.proofs.Math.Path.{refl}
 use Rattle.std.proofs.Common.{sym, subst, ap, ◌∙◌, add-one, arith}
 use Rattle.asyncio.specs.States.{pick}
@@ -7,7 +7,7 @@ use Rattle.asyncio.specs.Layout.{to_value, to_error}
 use Rattle.asyncio.specs.declared.Value.{Value}
 use Rattle.asyncio.specs.declared.Error.{Error}
 use Rattle.queue.specs.declared.ReadyQueue.{ReadyQueue}
-use Rattle.queue.specs.Queue.{push_back, order_from, push_in_order}
+use Rattle.queue.specs.Queue.{order_from, push_in_order}
 use Rattle.queue.proofs.QueueLaws.{push_back_either}
 use Rattle.queue.proofs.OrderLaws.{order_none, push_ordered}
 use Rattle.scheduler.specs.Search.{FoundTask}

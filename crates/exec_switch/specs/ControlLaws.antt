@@ -1,20 +1,17 @@
 -- A switch to a task or to the host, in the shape of what the code knows there.
 use Rattle.std.specs.Prelude.{◌≡◌, refl, List, ℕ, length, replicate}
-use Rattle.std.proofs.Common.{sym, ap, ◌∙◌}
-use Rattle.asyncio.specs.Limits.{tasks_length, objects_length, places_length}
+use Rattle.asyncio.specs.Limits.{tasks_length, objects_length}
 use Rattle.asyncio.specs.declared.TaskId.{TaskId}
 use Rattle.asyncio.specs.declared.TaskState.{TaskState}
 use Rattle.asyncio.specs.declared.Moment.{Moment}
 use Rattle.rows.specs.Tables.{task_at, task_put}
 use Rattle.queue.specs.declared.ReadyQueue.{ReadyQueue}
-use Rattle.queue.specs.Queue.{empty_queue}
-use Rattle.machine.specs.Store.{Store, LogEntry, store_of, task, put_task, header, put_header, restate, set_state, set_moment}
+use Rattle.machine.specs.Store.{LogEntry, store_of, task, put_task, header, put_header, restate, set_state, set_moment}
 use Rattle.machine.specs.Scheduler.{pending_calls_in, pending_call_ids}
 use Rattle.machine.specs.Events.{run, yield}
-use Rattle.machine_laws.specs.Views.{Sized}
 use Rattle.machine_laws.specs.SizedLaws.{waiting_calls}
 use Rattle.exec_deliver.specs.ClimbLaws.{some-places, some_places_long}
-use Rattle.exec_switch.specs.Control.{moment_put, how_of, control_of, switched_of}
+use Rattle.exec_switch.specs.Control.{moment_put, how_of, switched_of}
 use Rattle.exec_switch.specs.declared.control.How.{How}
 use Rattle.exec_switch.specs.declared.control.Control.{Control}
 

@@ -1,6 +1,6 @@
 -- The ways through activate_task, start_task, handle_task_failure, resume_after_task_exit and switch_or_yield, in the shape of what the
 -- code knows there, and how many tasks live on each of them.
-use Rattle.std.specs.Prelude.{◌≡◌, refl, ℕ, suc, ◌<◌, eqb, length, get_or, None, Some}
+use Rattle.std.specs.Prelude.{◌≡◌, refl, ℕ, suc, ◌<◌, length, get_or, None, Some}
 use Rattle.std.proofs.Common.{sym, ◌∙◌, mod-lt, arith, eq-eqb, ne_eqb}
 use Rattle.std.proofs.Math.Path.{ap}
 use mathlib.Core.List.{List, [], ◌∷◌}
@@ -30,9 +30,8 @@ use Rattle.machine_laws.specs.Views.{Sized}
 use Rattle.machine_laws.specs.Statements.{SameLive}
 use Rattle.machine_laws.specs.DeliveryLaws.{failure_same, live_in-same}
 use Rattle.machine_laws.specs.CycleLaws.{live-falls}
-use Rattle.machine_laws.specs.WokenLaws.{WokenFits, failure_woken, activate-by, removed-same}
+use Rattle.machine_laws.specs.WokenLaws.{failure_woken, activate-by, removed-same}
 use Rattle.exec_switch.specs.Control.{switched_of, function_of, FoundFits}
-use Rattle.exec_switch.specs.ControlLaws.{some-tasks, some_tasks_long}
 use Rattle.exec_switch.specs.LogLaws.{same_switch}
 use Rattle.exec_switch.specs.declared.control.Control.{Control}
 use Rattle.exec_switch.specs.Control.{NewFunction}

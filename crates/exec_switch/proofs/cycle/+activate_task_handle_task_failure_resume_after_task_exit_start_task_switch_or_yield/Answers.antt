@@ -1,4 +1,4 @@
-use Rattle.std.proofs.Common.{refl, [], ◌∙◌, arith}
+use Rattle.std.proofs.Common.{refl, [], arith}
 use Rattle.rows.specs.TableLaws.{task_at-fits}
 use Rattle.exec_deliver.specs.ClimbLaws.{some-places, some_places_long}
 use Rattle.machine.specs.Events as machine
