@@ -11,6 +11,7 @@ use Rattle.machine.specs.Machine.{Step}
 use Rattle.machine.specs.Lent.{Lent, read_as, lent_as, lent_step, lent_begin, lent_read, answer_calls}
 use Rattle.exec_switch.specs.Answer.{answer_of, stepped_of}
 use Rattle.exec_switch.specs.declared.answer.Answer.{Answer}
+use Rattle.exec_switch.specs.declared.answer.Refusal.{Refusal}
 use Rattle.step_checks.specs.Lent.{lent_of}
 use Rattle.records_words.specs.RowsInUse.{next_in, is_refused, refuses, rows_left, rows_begun}
 use Rattle.records_words.specs.OnWords.{with_rows, words_step, begun_rows, words_begin, words_read}
@@ -45,19 +46,19 @@ module _ (n : ℕ) (ws os ps : List ℕ) (q : ReadyQueue) (cs : List ℕ) (e : m
 
   -- another number of records
   pub step-refused : (n ≡ task_limit → ⊥)
-      → (lent_of (store_of ws os ps q (words_step n given cs e).0.store.log) cs (Answer.Refused 1) 0, 0) ≡ words_step n given cs e
+      → (lent_of (store_of ws os ps q (words_step n given cs e).0.store.log) cs (Answer.Refused Refusal.WrongLength) 0, 0) ≡ words_step n given cs e
   unfolding answer_calls
   step-refused h =
-      ap (λ (x : Lent × ℕ). (lent_of (store_of ws os ps q x.0.store.log) cs (Answer.Refused 1) 0, 0)) (step_other h) ∙ sym (step_other h)
+      ap (λ (x : Lent × ℕ). (lent_of (store_of ws os ps q x.0.store.log) cs (Answer.Refused Refusal.WrongLength) 0, 0)) (step_other h) ∙ sym (step_other h)
 
   -- 513 records: those in use are to be saved, or none where it is a refusal
-  pub step-done : {ws' os' ps' cs' : List ℕ} {q' : ReadyQueue} {c k : ℕ} {b : Bool} (a : Answer) → n ≡ task_limit
+  pub step-done : {ws' os' ps' cs' : List ℕ} {q' : ReadyQueue} {c k : ℕ} (a : Answer) → n ≡ task_limit
       → lent_of (store_of ws' os' ps' q' (lent_step given cs e).store.log) cs' a c ≡ lent_step given cs e
-      → b ≡ refuses a → k ≡ pick b 0 (next_in os')
+      → k ≡ pick (refuses a) 0 (next_in os')
       → (lent_of (store_of ws' os' ps' q' (words_step n given cs e).0.store.log) cs' a c, k) ≡ words_step n given cs e
-  step-done {ws'} {os'} {ps'} {cs'} {q'} {c} {k} {b} a h s r m =
+  step-done {ws'} {os'} {ps'} {cs'} {q'} {c} {k} a h s m =
       let y : Lent = lent_of (store_of ws' os' ps' q' (lent_step given cs e).store.log) cs' a c in
-      let rows : k ≡ rows_left y.answer os' = m ∙ ap (λ (z : Bool). pick z 0 (next_in os')) (r ∙ same-refusal os' a) in
+      let rows : k ≡ rows_left y.answer os' = m ∙ ap (λ (z : Bool). pick z 0 (next_in os')) (same-refusal os' a) in
       ap (λ (x : Lent × ℕ). (lent_of (store_of ws' os' ps' q' x.0.store.log) cs' a c, k)) (step-all h)
       ∙ ap (λ (j : ℕ). (y, j)) rows ∙ ap with_rows s ∙ sym (step-all h)
 
@@ -76,18 +77,18 @@ module _ (n : ℕ) (ws os ps : List ℕ) (q : ReadyQueue) where
   begin-all h = rw (eq-eqb n task_limit h)
 
   -- another number of records
-  pub begin_refused : (n ≡ task_limit → ⊥) → (stepped_of (store_of ws os ps q (words_begin n lent).0.store.log) (Answer.Refused 1), 0) ≡ words_begin n lent
+  pub begin_refused : (n ≡ task_limit → ⊥) → (stepped_of (store_of ws os ps q (words_begin n lent).0.store.log) (Answer.Refused Refusal.WrongLength), 0) ≡ words_begin n lent
   begin_refused h =
-      ap (λ (x : Step × ℕ). (stepped_of (store_of ws os ps q x.0.store.log) (Answer.Refused 1), 0)) (begin-other h) ∙ sym (begin-other h)
+      ap (λ (x : Step × ℕ). (stepped_of (store_of ws os ps q x.0.store.log) (Answer.Refused Refusal.WrongLength), 0)) (begin-other h) ∙ sym (begin-other h)
 
   -- 513 records: all are to be saved, or none where it is a refusal
-  pub begin_done : {ws' os' ps' : List ℕ} {q' : ReadyQueue} {k : ℕ} {b : Bool} (a : Answer) → n ≡ task_limit
+  pub begin_done : {ws' os' ps' : List ℕ} {q' : ReadyQueue} {k : ℕ} (a : Answer) → n ≡ task_limit
       → stepped_of (store_of ws' os' ps' q' (lent_begin lent).store.log) a ≡ lent_begin lent
-      → b ≡ refuses a → k ≡ pick b 0 task_limit
+      → k ≡ pick (refuses a) 0 task_limit
       → (stepped_of (store_of ws' os' ps' q' (words_begin n lent).0.store.log) a, k) ≡ words_begin n lent
-  begin_done {ws'} {os'} {ps'} {q'} {k} {b} a h s r m =
+  begin_done {ws'} {os'} {ps'} {q'} {k} a h s m =
       let y : Step = stepped_of (store_of ws' os' ps' q' (lent_begin lent).store.log) a in
-      let rows : k ≡ rows_begun y.answer = m ∙ ap (λ (z : Bool). pick z 0 task_limit) (r ∙ same-refusal os' a) in
+      let rows : k ≡ rows_begun y.answer = m ∙ ap (λ (z : Bool). pick z 0 task_limit) (same-refusal os' a) in
       ap (λ (x : Step × ℕ). (stepped_of (store_of ws' os' ps' q' x.0.store.log) a, k)) (begin-all h)
       ∙ ap (λ (j : ℕ). (y, j)) rows ∙ ap begun_rows s ∙ sym (begin-all h)
 

@@ -9,9 +9,10 @@ use Rattle.machine.specs.Machine.{Step}
 use Rattle.machine.specs.Lent.{Lent, read_as, lent_as, lent_step, lent_begin, lent_read}
 use Rattle.contract.specs.Contract.{Words, kept, Slice, before, DoesAt}
 use Rattle.exec_switch.specs.Answer.{stepped_of}
+use Rattle.exec_switch.specs.declared.answer.Stepped.{Stepped}
 use Rattle.step_checks.specs.Lent.{lent_of}
+use Rattle.step_event.specs.declared.Answered.{Answered}
 use Rattle.records_words.specs.declared.Worked.{Worked}
-use Rattle.records_words.specs.declared.Begun.{Begun}
 use Rattle.records_words.specs.RowsInUse.{rows_left, rows_begun}
 
 -- an event, and how many records are to be saved
@@ -23,7 +24,7 @@ unfoldable pub words_step : ℕ → Store → List ℕ → machine.Event → Len
 words_step n s cs e = pick (eqb n task_limit) (with_rows (lent_step s cs e)) (lent_as s cs (machine.Answer.refused 1), 0)
 
 -- The call is an event on the words of n records, with no log before it; no more records than there are will be saved.
-abbrev pub WordsStep : ℕ → Slice → Slice → Slice → Slice → ReadyQueue → machine.Event → Worked → Type 0
+abbrev pub WordsStep : ℕ → Slice → Slice → Slice → Slice → ReadyQueue → machine.Event → Worked Answered → Type 0
 WordsStep n words objects places calls queue e r =
     (DoesAt [] (λ x. x.0.store.log) words objects places queue r.answered.queue
     (λ s. (lent_of s calls.exit.now r.answered.answer r.answered.calls, r.rows))
@@ -40,10 +41,10 @@ unfoldable pub words_begin : ℕ → Store → Step × ℕ
 words_begin n s = pick (eqb n task_limit) (begun_rows (lent_begin s)) (record { store = s; answer = machine.Answer.refused 1 }, 0)
 
 -- The call is a beginning on the words of n records.
-abbrev pub WordsBegin : ℕ → Slice → Slice → Slice → ReadyQueue → Begun → Type 0
+abbrev pub WordsBegin : ℕ → Slice → Slice → Slice → ReadyQueue → Worked Stepped → Type 0
 WordsBegin n words objects places queue r =
-    (DoesAt [] (λ x. x.0.store.log) words objects places queue r.stepped.queue
-    (λ s. (stepped_of s r.stepped.answer, r.rows))
+    (DoesAt [] (λ x. x.0.store.log) words objects places queue r.answered.queue
+    (λ s. (stepped_of s r.answered.answer, r.rows))
     (λ s. words_begin n s))
     × (r.rows ≤ n)
     × (r.rows ≤ task_limit)

@@ -3,6 +3,7 @@
 
 ghost use Rattle.std.specs.Prelude.{◌≡◌, ◌≤◌};
 ghost use Rattle.asyncio.specs.Limits.{task_limit};
+ghost use Rattle.asyncio.specs.States.{pick};
 ghost use Rattle.machine.specs.Machine as machine;
 ghost use Rattle.exec_switch.specs.Answer.{answer_of};
 ghost use Rattle.step_read.specs.Reads.{show_answer};
@@ -11,23 +12,16 @@ ghost use Rattle.records_words.specs.RowsInUse.{next_in, rows_in_use, refuses};
 ghost use Rattle.records_words.specs.OnWords.{WordsStep, WordsBegin, WordsRead};
 
 use asyncio::{OBJECTS_LEN, TASKS};
-use exec_switch::answer::{Answer, Stepped};
+use exec_switch::answer::{Answer, Refusal, Stepped};
 use queue::ReadyQueue;
 use rows::tables::load_header;
 use step_event::{Answered, Event};
-use step_read::Reading;
+use step_read::Shown;
 
-// What an event answers, and how many records are to be saved.
+// What an event or a beginning answers, and how many records are to be saved.
 #[derive(Drop)]
-pub struct Worked {
-    pub answered: Answered,
-    pub rows: u16,
-}
-
-// The same of a beginning.
-#[derive(Drop)]
-pub struct Begun {
-    pub stepped: Stepped,
+pub struct Worked<T> {
+    pub answered: T,
     pub rows: u16,
 }
 
@@ -35,42 +29,26 @@ pub struct Begun {
 fn next_in(objects: &[u64]) -> u16
     ensures { (result ≡ next_in objects.now) × (result ≤ task_limit) }
 {
-    if objects.len() == OBJECTS_LEN {
-        let header = load_header(objects);
-        return header.next;
+    match objects.as_array::<OBJECTS_LEN>() {
+        Some(objects) => load_header(objects).next,
+        None => 0,
     }
-    0
 }
 
 // How many of `records` records are to be laid out.
 pub fn rows_in_use(records: usize, objects: &[u64]) -> u16
     ensures { (result ≡ rows_in_use records objects.now) × (result ≤ records) × (result ≤ task_limit) }
 {
-    if records == TASKS {
-        return next_in(objects);
-    }
-    0
+    if records == TASKS { next_in(objects) } else { 0 }
 }
 
-// Is it a refusal?
-fn refuses(answer: Answer) -> bool
-    ensures { result ≡ refuses answer }
+// How many records are to be saved after an answer: so many, or none where it is a refusal.
+fn rows_after(answer: Answer, rows: u16) -> u16
+    ensures { (result ≡ pick (refuses answer) 0 rows) × (result ≤ rows) }
 {
     match answer {
-        Answer::Made(_) => false,
-        Answer::Called(_) => false,
-        Answer::Switched(_) => false,
-        Answer::Awaited {
-            control: _,
-            steps: _,
-        } => false,
-        Answer::Done => false,
-        Answer::Cancelled(_) => false,
-        Answer::Stalled => false,
-        Answer::Finished(_) => false,
-        Answer::FinishedError(_) => false,
-        Answer::Eager(_) => false,
-        Answer::Refused(_) => true,
+        Answer::Refused(_) => 0,
+        _ => rows,
     }
 }
 
@@ -85,26 +63,22 @@ pub fn dispatch(
     event: Event,
     items: &[u16],
     results: &[u8],
-) -> Worked
+) -> Worked<Answered>
     ensures { WordsStep records words objects places calls queue (event_of items.now results.now event) result }
 {
-    if records == TASKS {
-        let answered = session_dispatch::dispatch(
-            words, objects, places, calls, queue, event, items, results,
-        );
-        let answer = answered.answer;
-        if refuses(answer) {
-            return Worked { answered, rows: 0 };
-        }
-        let rows = next_in(objects);
-        return Worked { answered, rows };
+    if records != TASKS {
+        let answered = Answered {
+            queue,
+            answer: Answer::Refused(Refusal::WrongLength),
+            calls: 0,
+        };
+        return Worked { answered, rows: 0 };
     }
-    let answered = Answered {
-        queue,
-        answer: Answer::Refused(1),
-        calls: 0,
-    };
-    Worked { answered, rows: 0 }
+    let answered = session_dispatch::dispatch(
+        words, objects, places, calls, queue, event, items, results,
+    );
+    let rows = rows_after(answered.answer, next_in(objects));
+    Worked { answered, rows }
 }
 
 // The beginning of a session on the words of `records` records.
@@ -114,22 +88,19 @@ pub fn begin(
     objects: &mut [u64],
     places: &mut [u64],
     queue: ReadyQueue,
-) -> Begun
+) -> Worked<Stepped>
     ensures { WordsBegin records words objects places queue result }
 {
-    if records == TASKS {
-        let stepped = session_begin::begin(words, objects, places, queue);
-        let answer = stepped.answer;
-        if refuses(answer) {
-            return Begun { stepped, rows: 0 };
-        }
-        return Begun { stepped, rows: 513 };
+    if records != TASKS {
+        let answered = Stepped {
+            queue,
+            answer: Answer::Refused(Refusal::WrongLength),
+        };
+        return Worked { answered, rows: 0 };
     }
-    let stepped = Stepped {
-        queue,
-        answer: Answer::Refused(1),
-    };
-    Begun { stepped, rows: 0 }
+    let answered = session_begin::begin(words, objects, places, queue);
+    let rows = rows_after(answered.answer, 513);
+    Worked { answered, rows }
 }
 
 // What object `o` is and has.
@@ -140,13 +111,13 @@ pub fn show(
     places: &[u64],
     queue: ReadyQueue,
     o: u16,
-) -> Reading
+) -> Result<Shown, Refusal>
     ensures { WordsRead records words.now objects.now places.now queue (machine.Event.show o) (show_answer places.now result) }
 {
-    if records == TASKS {
-        return session_reads::show(words, objects, places, queue, o);
+    if records != TASKS {
+        return Err(Refusal::WrongLength);
     }
-    Reading::Refused(1)
+    session_reads::show(words, objects, places, queue, o)
 }
 
 // May the host answer a call at once?
@@ -159,8 +130,8 @@ pub fn eager(
 ) -> Answer
     ensures { WordsRead records words.now objects.now places.now queue machine.Event.eager (answer_of objects.now result) }
 {
-    if records == TASKS {
-        return session_reads::eager(words, objects, places, queue);
+    if records != TASKS {
+        return Answer::Refused(Refusal::WrongLength);
     }
-    Answer::Refused(1)
+    session_reads::eager(words, objects, places, queue)
 }

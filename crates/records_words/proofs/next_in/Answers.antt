@@ -1,13 +1,18 @@
+use Rattle.std.proofs.Common.{◌∙◌, sym, ap, arith}
 use borrow.Author.Tests.{eq-eqb, ne_eqb}
+use Rattle.asyncio.specs.declared.Header.{Header}
 use Rattle.rows.specs.TableLaws.{header_read}
+use Rattle.rows.specs.Tables.{header_at}
+use Rattle.asyncio.specs.Limits.{objects_length}
 use Rattle.records_words.specs.RowsInUse.{next_in}
-use native.Mathlib.Omega.{arith}
 use Rattle.records_words.proofs.next_in.Goals as goal
 
-pub returns-then-objects-eq-OBJECTS_LEN : goal.returns-then-objects-eq-OBJECTS_LEN
+pub returns-in-Some : goal.returns-in-Some
 unfolding next_in
-returns-then-objects-eq-OBJECTS_LEN c = (rw (eq-eqb _ _ c.if-objects-eq-OBJECTS_LEN.true, c.load_header-header.ensures), (header_read _ c.load_header-header.ensures).next_fits)
+returns-in-Some c =
+    let e = c.load_header.ensures ∙ ap header_at c.in-Some.ensures.cases.same in
+    (rw (eq-eqb _ objects_length c.in-Some.ensures.cases.long, sym e), (header_read _ e).next_fits)
 
-pub returns : goal.returns
+pub returns-in-None : goal.returns-in-None
 unfolding next_in
-returns c = (rw (ne_eqb _ _ c.if-objects-eq-OBJECTS_LEN.false), omega arith)
+returns-in-None c = (rw (ne_eqb _ objects_length c.in-None.ensures.cases), omega arith)

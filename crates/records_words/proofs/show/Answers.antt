@@ -4,8 +4,8 @@ use Rattle.machine.specs.Store.{store_of}
 use Rattle.records_words.proofs.OnWordsLaws.{read-refused, read_done}
 use Rattle.records_words.proofs.show.Goals as goal
 
-pub returns-then-records-eq-TASKS : goal.returns-then-records-eq-TASKS
-returns-then-records-eq-TASKS c = read_done c.args.records (store_of c.args.words.now c.args.objects.now c.args.places.now c.args.queue []) (machine.Event.show c.args.o) c.if-records-eq-TASKS.true (c.show.ensures [])
-
 pub returns : goal.returns
-returns c = read-refused c.args.records (store_of c.args.words.now c.args.objects.now c.args.places.now c.args.queue []) (machine.Event.show c.args.o) c.if-records-eq-TASKS.false
+returns c = read_done c.args.records (store_of c.args.words.now c.args.objects.now c.args.places.now c.args.queue []) (machine.Event.show c.args.o) c.if-records-ne-TASKS.false (c.show.ensures [])
+
+pub returns-then-records-ne-TASKS : goal.returns-then-records-ne-TASKS
+returns-then-records-ne-TASKS c = read-refused c.args.records (store_of c.args.words.now c.args.objects.now c.args.places.now c.args.queue []) (machine.Event.show c.args.o) c.if-records-ne-TASKS.true
