@@ -17,6 +17,7 @@ use Rattle.machine.specs.Lent.{Lent, Read, read_as, lent_as, answer_calls, slice
 use Rattle.machine_laws.specs.TestLaws.{is_true}
 use Rattle.exec_switch.specs.Answer.{answer_of, stepped_of}
 use Rattle.exec_switch.specs.declared.answer.Answer.{Answer}
+use Rattle.exec_switch.specs.declared.answer.Refusal.{Refusal}
 use Rattle.step_checks.specs.Lent.{are_slices, lent_of}
 use Rattle.step_checks.specs.LentLaws.{not_sound, step_unsound}
 use Rattle.records_tasks.specs.declared.TaskRecord.{TaskRecord}
@@ -145,7 +146,7 @@ module _ (m : Records) where
     unfit_refused cs e t lc h f =
         let n = (header_at m.objects).next in
         let unsound : sound (laid_out n) ≡ false = unfit_unsound m.tasks t f m.objects m.places m.queue [] h in
-        let core : lent_of (store_of (rows_of m.tasks n) m.objects m.places m.queue (lent_step (laid_out n) cs e).store.log) cs (Answer.Refused 2) 0 ≡ lent_step (laid_out n) cs e
+        let core : lent_of (store_of (rows_of m.tasks n) m.objects m.places m.queue (lent_step (laid_out n) cs e).store.log) cs (Answer.Refused Refusal.NotSound) 0 ≡ lent_step (laid_out n) cs e
         = not_sound (rows_of m.tasks n) m.objects m.places m.queue cs [] e (all_right cs lc n) refl refl unsound in
         ap (λ (b : Bool). pick b (gone_back m.tasks (lent_step (laid_out (next_in m.objects)) cs e)) (refused_as m cs 1)) (eq-eqb _ _ l)
         ∙ ap (λ (k : ℕ). gone_back m.tasks (lent_step (laid_out k) cs e)) next_is

@@ -14,12 +14,12 @@ ghost use Rattle.step_event.specs.EventOf.{event_of};
 ghost use Rattle.records_session.specs.RecordsContract.{RecordsStep, RecordsBegin, RecordsRead};
 
 use asyncio::{TASKS_LEN, Value};
-use exec_switch::answer::{Answer, Stepped};
+use exec_switch::answer::{Answer, Refusal, Stepped};
 use queue::ReadyQueue;
 use records_tasks::{TaskRecord, load, save};
 use records_words::rows_in_use;
 use step_event::{Answered, Event};
-use step_read::Reading;
+use step_read::Shown;
 
 // A fresh session: main runs, and nothing else exists, whatever the records and slices held. Done, with the queue to pass back. Refused with 1 where there
 // is another number of records than 513, or a slice has another length than 2,056 and 2,048; then nothing is changed.
@@ -31,11 +31,10 @@ pub fn begin(
 ) -> Stepped
     ensures { RecordsBegin tasks objects places queue result }
 {
-    let records = tasks.len();
-    let mut words = [0u64; TASKS_LEN];
-    let begun = records_words::begin(records, &mut words, objects, places, queue);
+    let mut words = [0; TASKS_LEN];
+    let begun = records_words::begin(tasks.len(), &mut words, objects, places, queue);
     save(tasks, &words, begun.rows);
-    begun.stepped
+    begun.answered
 }
 
 // Any event of kinds 1 to 11 on any memory.
@@ -52,8 +51,7 @@ pub fn dispatch(
     ensures { RecordsStep tasks objects places calls queue (event_of items.now results.now event) result }
 {
     let records = tasks.len();
-    let n = rows_in_use(records, objects);
-    let mut words = load(tasks, n);
+    let mut words = load(tasks, rows_in_use(records, objects));
     let worked = records_words::dispatch(
         records, &mut words, objects, places, calls, queue, event, items, results,
     );
@@ -73,7 +71,7 @@ fn dispatch_plain(
     ensures { RecordsStep tasks objects places calls queue (event_of [] [] event) result }
 {
     dispatch(
-        tasks, objects, places, calls, queue, event, &[0; 0], &[0; 0],
+        tasks, objects, places, calls, queue, event, &[], &[],
     )
 }
 
@@ -84,12 +82,11 @@ pub fn show(
     places: &[u64],
     queue: ReadyQueue,
     o: u16,
-) -> Reading
+) -> Result<Shown, Refusal>
     ensures { RecordsRead tasks.now objects.now places.now queue (machine.Event.show o) (show_answer places.now result) }
 {
     let records = tasks.len();
-    let n = rows_in_use(records, objects);
-    let words = load(tasks, n);
+    let words = load(tasks, rows_in_use(records, objects));
     records_words::show(records, &words, objects, places, queue, o)
 }
 
@@ -98,8 +95,7 @@ pub fn eager(tasks: &[TaskRecord], objects: &[u64], places: &[u64], queue: Ready
     ensures { RecordsRead tasks.now objects.now places.now queue machine.Event.eager (answer_of objects.now result) }
 {
     let records = tasks.len();
-    let n = rows_in_use(records, objects);
-    let words = load(tasks, n);
+    let words = load(tasks, rows_in_use(records, objects));
     records_words::eager(records, &words, objects, places, queue)
 }
 
@@ -193,7 +189,7 @@ pub fn gather(
         queue,
         Event::Gather,
         items,
-        &[0; 0],
+        &[],
     )
 }
 
@@ -258,7 +254,7 @@ pub fn results(
         calls,
         queue,
         Event::Results,
-        &[0; 0],
+        &[],
         results,
     )
 }

@@ -1,11 +1,13 @@
 use mathlib.Core.Path.{◌∙◌, ap}
+use mathlib.Core.List.{[]}
+use Rattle.queue.specs.Queue.{queue_of}
+use Rattle.machine.specs.Machine.{Event}
 use Rattle.boundary_numbers.specs.Numbers.{numbers_as}
-use Rattle.boundary_lent.proofs.BoundaryLaws.{right_slices}
+use Rattle.boundary_lent.proofs.BoundaryLaws.{reads_soundly, right_slices}
 use borrow.Author.Rules.{rules}
 use Rattle.boundary_lent.proofs.show_unchecked.Goals as goal
 
-pub sound_show-reading-requires : goal.sound_show-reading-requires
-sound_show-reading-requires c = (right_slices _ _ _ _ (search rules) (search rules) (search rules), search rules)
-
 pub returns : goal.returns
-returns c = c.shown_numbers.ensures c.args.places.now ∙ ap numbers_as c.sound_show-reading.ensures
+returns c =
+    c.shown_numbers.ensures c.args.places.now
+    ∙ ap numbers_as (reads_soundly c.args.tasks.now c.args.objects.now c.args.places.now (queue_of c.args.ids.now c.args.len) (Event.show c.args.object) (right_slices _ _ _ _ (search rules) (search rules) (search rules)) (search rules) (c.show.ensures c.args.tasks.now c.args.places.now (queue_of c.args.ids.now c.args.len) []))
