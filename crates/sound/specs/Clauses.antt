@@ -72,7 +72,7 @@ module _ (ts os ps : List ℕ) (q : ReadyQueue) (l : List LogEntry) where
       (four (queue_ready h.next (task_at ts) (entries q)) (calls_distinct h (object_at os)) (one_task h.next (task_at ts))
       (blocked_match h (object_at os) (task_at ts)) (gathers_sound h (object_at os) (task_at ts) (place_at ps)))
 
-  sound_by : sound (store_of ts os ps q l)
+  pub sound_by : sound (store_of ts os ps q l)
       ≡ leb q.len task_limit and rows_canonical h ts os ps and tables_sound h (object_at os) (task_at ts) (place_at ps)
       and tasks_sound h (object_at os) (task_at ts) (entries q) and gathers_sound h (object_at os) (task_at ts) (place_at ps)
   unfolding sound

@@ -5,28 +5,16 @@ ghost use Rattle.rows.specs.Slices.{object_in, place_in};
 ghost use Rattle.machine.specs.Scheduler.{bit};
 ghost use Rattle.machine.specs.Sound.{is_filled, rest_filled, object_filled, places_filled};
 
-use asyncio::{HeapId, Objects, Places, Value};
+use asyncio::{HeapId, Objects, Places};
 use rows::parts::{count_at, first_at, kind_at, open_at, result_at};
-
-// A value is there.
-fn is_filled(x: Option<Value>) -> bool
-    ensures { result ≡ is_filled x }
-{
-    match x {
-        None => false,
-        Some(_) => true,
-    }
-}
+use scheduler_states::places::is_bit_open;
 
 // Place `k` of a gather whose places start at `first` is open in `m`, or filled.
 fn place_done(places: &Places, first: usize, m: u32, k: usize) -> bool
     requires { (first + k < place_limit) × (k < item_limit) }
     ensures { result ≡ (bit m k || is_filled (place_in places (first + k)).result) }
 {
-    if (m >> k) % 2 == 0 {
-        return is_filled(result_at(places, first + k));
-    }
-    true
+    is_bit_open(m, k) || result_at(places, first + k).is_some()
 }
 
 // The places not open in `m` are filled.
@@ -34,15 +22,7 @@ fn rest_filled(places: &Places, first: usize, n: usize, m: u32) -> bool
     requires { (first + n ≤ place_limit) × (n ≤ item_limit) }
     ensures { result ≡ rest_filled (place_in places) first n m }
 {
-    let mut k: usize = 0;
-    while k < n {
-        if place_done(places, first, m, k) {
-            k += 1;
-        } else {
-            return false;
-        }
-    }
-    true
+    (0..n).all(|k| place_done(places, first, m, k))
 }
 
 // Object `o` by its kind: only gathers have places.
@@ -51,19 +31,14 @@ fn object_filled(objects: &Objects, places: &Places, o: HeapId) -> bool
     ensures { result ≡ object_filled (place_in places) (object_in objects o.0) }
 {
     let kind = kind_at(objects, o);
-    let first = first_at(objects, o);
-    let count = count_at(objects, o);
+    let first = first_at(objects, o) as usize;
+    let count = count_at(objects, o) as usize;
     if kind.is_awaited() {
         let m = open_at(objects, o);
-        if m == 0 {
-            return false;
-        }
-        return rest_filled(places, first as usize, count as usize, m);
+        m != 0 && rest_filled(places, first, count, m)
+    } else {
+        !kind.is_completed() || rest_filled(places, first, count, 0)
     }
-    if kind.is_completed() {
-        return rest_filled(places, first as usize, count as usize, 0);
-    }
-    true
 }
 
 // Of every object.
@@ -71,13 +46,5 @@ pub fn places_filled(made: u16, objects: &Objects, places: &Places) -> bool
     requires { made ≤ object_limit }
     ensures { result ≡ places_filled made (object_in objects) (place_in places) }
 {
-    let mut o: u16 = 0;
-    while o < made {
-        if object_filled(objects, places, HeapId::new(o)) {
-            o += 1;
-        } else {
-            return false;
-        }
-    }
-    true
+    (0..made).all(|o| object_filled(objects, places, HeapId(o)))
 }

@@ -19,90 +19,66 @@ ghost use Rattle.sound.specs.Clauses.{rows_canonical, tables_sound, tasks_sound,
 use asyncio::{Header, Objects, Places, TASKS, Tasks};
 use queue::ReadyQueue;
 use rows::tables::load_header;
+use sound_rows::{numbers, values};
+use sound_tasks::{blocked, calls, entries, one_task};
 
 // Every row in use is canonical.
+#[tactic(auto, using(sound_words::specs::Loops::both), unfolding(crate::specs::Clauses::rows_canonical))]
 fn rows_canonical(header: Header, tasks: &Tasks, objects: &Objects, places: &Places) -> bool
     requires { HeaderFits header }
     ensures { result ≡ rows_canonical header tasks.now objects.now places.now }
 {
-    if sound_words::header_same(objects) {
-        if sound_words::tasks_same(tasks, header.next as usize) {
-            if sound_words::objects_same(objects, header.made as usize) {
-                return sound_words::places_same(places, header.used as usize);
-            }
-            return false;
-        }
-        return false;
-    }
-    false
+    sound_words::header_same(objects)
+        && sound_words::tasks_same(tasks, header.next as usize)
+        && sound_words::objects_same(objects, header.made as usize)
+        && sound_words::places_same(places, header.used as usize)
 }
 
 // Clauses 1 to 4.
+#[tactic(auto, using(sound_words::specs::Loops::both), unfolding(crate::specs::Clauses::tables_sound))]
 fn tables_sound(header: Header, tasks: &Tasks, objects: &Objects, places: &Places) -> bool
     requires { HeaderFits header }
     ensures { result ≡ tables_sound header (object_in objects) (task_in tasks) (place_in places) }
 {
-    if sound_rows::numbers::numbers_in_range(header, tasks, objects) {
-        if sound_rows::numbers::spawned_in_range(header, objects) {
-            if sound_rows::values::items_lower(header.made, objects, places) {
-                return sound_rows::values::lists_completed(header, tasks, objects, places);
-            }
-            return false;
-        }
-        return false;
-    }
-    false
+    numbers::numbers_in_range(header, tasks, objects)
+        && numbers::spawned_in_range(header, objects)
+        && values::items_lower(header.made, objects, places)
+        && values::lists_completed(header, tasks, objects, places)
 }
 
-// Clauses 5 to 8, with the first `n` places of the queue.
-fn tasks_sound(header: Header, ids: [u16; TASKS], n: usize, tasks: &Tasks, objects: &Objects) -> bool
-    requires { HeaderFits header × (n ≤ task_limit) }
-    ensures { result ≡ tasks_sound header (object_in objects) (task_in tasks) (take n ids) }
+// Clauses 5 to 8.
+#[tactic(auto, using(sound_words::specs::Loops::both), unfolding(crate::specs::Clauses::tasks_sound))]
+fn tasks_sound(header: Header, queue: &ReadyQueue, tasks: &Tasks, objects: &Objects) -> bool
+    requires { HeaderFits header × (queue.now.len ≤ task_limit) }
+    ensures { result ≡ tasks_sound header (object_in objects) (task_in tasks) (take queue.now.len queue.now.ids) }
 {
-    if sound_tasks::entries::queue_ready(ids, n, header.next, tasks) {
-        if sound_tasks::calls::calls_distinct(header, objects) {
-            if sound_tasks::one_task::one_task(header.next, tasks) {
-                return sound_tasks::blocked::blocked_match(header, tasks, objects);
-            }
-            return false;
-        }
-        return false;
-    }
-    false
+    entries::queue_ready(queue, header.next, tasks)
+        && calls::calls_distinct(header, objects)
+        && one_task::one_task(header.next, tasks)
+        && blocked::blocked_match(header, tasks, objects)
 }
 
 // Clauses 9 to 11.
+#[tactic(auto, using(sound_words::specs::Loops::both), unfolding(crate::specs::Clauses::gathers_sound))]
 fn gathers_sound(header: Header, tasks: &Tasks, objects: &Objects, places: &Places) -> bool
     requires { HeaderFits header }
     ensures { result ≡ gathers_sound header (object_in objects) (task_in tasks) (place_in places) }
 {
-    if filled::places_filled(header.made, objects, places) {
-        if slots::slots_open(header, tasks, objects, places) {
-            return runner::one_runs(header, tasks);
-        }
-        return false;
-    }
-    false
+    filled::places_filled(header.made, objects, places)
+        && slots::slots_open(header, tasks, objects, places)
+        && runner::one_runs(header, tasks)
 }
 
 // Is the store sound? The words are tested first, so that the clauses speak of rows whose words say what they are read as.
-pub fn is_sound(queue: ReadyQueue, tasks: &Tasks, objects: &Objects, places: &Places) -> bool
-    ensures { (l : List LogEntry) → result ≡ sound (before (kept tasks.now) (kept objects.now) (kept places.now) queue l) }
+pub fn is_sound(queue: &ReadyQueue, tasks: &Tasks, objects: &Objects, places: &Places) -> bool
+    ensures { (l : List LogEntry) → result ≡ sound (before (kept tasks.now) (kept objects.now) (kept places.now) queue.now l) }
 {
-    let n = queue.len;
-    if TASKS < n {
+    if TASKS < queue.len {
         return false;
     }
-    let ids = queue.ids;
     let header = load_header(objects);
-    if rows_canonical(header, tasks, objects, places) {
-        if tables_sound(header, tasks, objects, places) {
-            if tasks_sound(header, ids, n, tasks, objects) {
-                return gathers_sound(header, tasks, objects, places);
-            }
-            return false;
-        }
-        return false;
-    }
-    false
+    rows_canonical(header, tasks, objects, places)
+        && tables_sound(header, tasks, objects, places)
+        && tasks_sound(header, queue, tasks, objects)
+        && gathers_sound(header, tasks, objects, places)
 }

@@ -24,9 +24,10 @@ fn gather_holds(objects: &Objects, places: &Places, g: HeapId, o: HeapId) -> boo
         let first = first_at(objects, g);
         let count = count_at(objects, g);
         let open_places = open_at(objects, g);
-        return is_open(places, first, count, open_places, o);
+        is_open(places, first, count, open_places, o)
+    } else {
+        kind.is_committed()
     }
-    kind.is_committed()
 }
 
 // The awaiter of the holder of object `o`.
@@ -35,15 +36,17 @@ fn slot_open(objects: &Objects, places: &Places, o: HeapId, w: Awaiter) -> bool
     ensures { result ≡ slot_open (object_in objects) (place_in places) o.0 w }
 {
     match w {
-        Awaiter::Nobody => true,
-        Awaiter::Task(_) => true,
-        Awaiter::GatherSlot { gather, source } => {
-            if source.0 == o.0 {
-                return gather_holds(objects, places, gather, o);
-            }
-            false
-        }
+        Awaiter::GatherSlot { gather, source } => source == o && gather_holds(objects, places, gather, o),
+        Awaiter::Nobody | Awaiter::Task(_) => true,
     }
+}
+
+// An object's own awaiter.
+fn object_slot(objects: &Objects, places: &Places, o: HeapId) -> bool
+    requires { o.0 < object_limit }
+    ensures { result ≡ slot_open (object_in objects) (place_in places) o.0 (awaiter_of (object_in objects o.0)) }
+{
+    slot_open(objects, places, o, awaiter_at(objects, o))
 }
 
 // Of every object.
@@ -51,16 +54,7 @@ fn object_slots(made: u16, objects: &Objects, places: &Places) -> bool
     requires { made ≤ object_limit }
     ensures { result ≡ all_below made (λ o. slot_open (object_in objects) (place_in places) o (awaiter_of (object_in objects o))) }
 {
-    let mut o: u16 = 0;
-    while o < made {
-        let id = HeapId::new(o);
-        if slot_open(objects, places, id, awaiter_at(objects, id)) {
-            o += 1;
-        } else {
-            return false;
-        }
-    }
-    true
+    (0..made).all(|o| object_slot(objects, places, HeapId(o)))
 }
 
 // A live task's awaiter, for its coroutine.
@@ -68,12 +62,8 @@ fn task_slot(tasks: &Tasks, objects: &Objects, places: &Places, t: TaskId) -> bo
     requires { t.0 < task_limit }
     ensures { result ≡ task_slot_open (object_in objects) (task_in tasks) (place_in places) t.0 }
 {
-    let state = state_at(tasks, t);
-    if state.is_live() {
-        let coroutine = coroutine_at(tasks, t);
-        return slot_open(objects, places, coroutine, task_awaiter_at(tasks, t));
-    }
-    true
+    !state_at(tasks, t).is_live()
+        || slot_open(objects, places, coroutine_at(tasks, t), task_awaiter_at(tasks, t))
 }
 
 // Of every task.
@@ -81,24 +71,14 @@ fn task_slots(next: u16, tasks: &Tasks, objects: &Objects, places: &Places) -> b
     requires { next ≤ task_limit }
     ensures { result ≡ all_below next (task_slot_open (object_in objects) (task_in tasks) (place_in places)) }
 {
-    let mut t: u16 = 0;
-    while t < next {
-        if task_slot(tasks, objects, places, TaskId::new(t)) {
-            t += 1;
-        } else {
-            return false;
-        }
-    }
-    true
+    (0..next).all(|t| task_slot(tasks, objects, places, TaskId(t)))
 }
 
 // Of objects, and of live tasks for their coroutines.
+#[tactic(auto, using(sound_words::specs::Loops::both), unfolding(machine::specs::Sound::slots_open))]
 pub fn slots_open(header: Header, tasks: &Tasks, objects: &Objects, places: &Places) -> bool
     requires { (header.made ≤ object_limit) × (header.next ≤ task_limit) }
     ensures { result ≡ slots_open header (object_in objects) (task_in tasks) (place_in places) }
 {
-    if object_slots(header.made, objects, places) {
-        return task_slots(header.next, tasks, objects, places);
-    }
-    false
+    object_slots(header.made, objects, places) && task_slots(header.next, tasks, objects, places)
 }
