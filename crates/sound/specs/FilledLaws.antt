@@ -1,5 +1,8 @@
 -- Clause 9: a gather's places by the object's kind, a law for each way through.
 use Rattle.std.specs.Prelude.{◌≡◌, refl, Bool, true, false, not, ◌||◌, List, ℕ, ◌/◌, ◌%◌, ◌^◌, eqb}
+use Rattle.std.proofs.Common.{◌∙◌}
+use Rattle.std.specs.Prelude.{None, Some}
+use Rattle.std.specs.Option.{is_some}
 use borrow.Author.Tests.{eq-eqb, ne_eqb}
 use Rattle.asyncio.specs.States.{pick}
 use Rattle.asyncio.specs.Kinds.{kind, each_object, is_awaited, is_completed}
@@ -18,12 +21,15 @@ use Rattle.machine.specs.Sound.{is_filled, rest_filled, gather_filled, object_fi
 
 -- ---- a place
 
-module _ (ps : List ℕ) (p m k : ℕ) where
-  pub place_shut : {x : OptionValue} {r : Bool} → m / 2 ^ k % 2 ≡ 0 → x ≡ (place_at ps p).result → r ≡ is_filled x → r ≡ (bit m k || is_filled (place_at ps p).result)
-  place_shut e f h = rw (eq-eqb (m / 2 ^ k % 2) 0 e, ← f) h
+-- as Rust's Option has it
+filled_told : (x : OptionValue) → is_some x ≡ is_filled x
+unfolding is_filled
+filled_told None = refl
+filled_told (Some v) = refl
 
-  pub place_open : (m / 2 ^ k % 2 ≡ 0 → ⊥) → true ≡ (bit m k || is_filled (place_at ps p).result)
-  place_open ne = rw (ne_eqb (m / 2 ^ k % 2) 0 ne)
+module _ (ps : List ℕ) (p m k : ℕ) where
+  pub place_shut : {x : OptionValue} {r : Bool} → bit m k ≡ false → x ≡ (place_at ps p).result → r ≡ is_some x → r ≡ (bit m k || is_filled (place_at ps p).result)
+  place_shut {x} e f h = rw (e, ← f) (h ∙ filled_told x)
 
 -- ---- an object
 

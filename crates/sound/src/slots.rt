@@ -31,12 +31,14 @@ fn gather_holds(objects: &Objects, places: &Places, g: HeapId, o: HeapId) -> boo
 }
 
 // The awaiter of the holder of object `o`.
+#[tactic(auto, using(sound_words::specs::Loops::both), unfolding(machine::specs::Sound::slot_open))]
 fn slot_open(objects: &Objects, places: &Places, o: HeapId, w: Awaiter) -> bool
     requires { AwaiterFits w }
     ensures { result ≡ slot_open (object_in objects) (place_in places) o.0 w }
 {
     match w {
-        Awaiter::GatherSlot { gather, source } => source == o && gather_holds(objects, places, gather, o),
+        Awaiter::GatherSlot { gather, source } => source == o
+            && gather_holds(objects, places, gather, o),
         Awaiter::Nobody | Awaiter::Task(_) => true,
     }
 }
@@ -63,7 +65,12 @@ fn task_slot(tasks: &Tasks, objects: &Objects, places: &Places, t: TaskId) -> bo
     ensures { result ≡ task_slot_open (object_in objects) (task_in tasks) (place_in places) t.0 }
 {
     !state_at(tasks, t).is_live()
-        || slot_open(objects, places, coroutine_at(tasks, t), task_awaiter_at(tasks, t))
+        || slot_open(
+            objects,
+            places,
+            coroutine_at(tasks, t),
+            task_awaiter_at(tasks, t),
+        )
 }
 
 // Of every task.
