@@ -1,6 +1,6 @@
 -- The whole of soundness in four parts, as the code asks them: the rows in use and the queue's count; clauses 1 to 4; 5 to 8; 9 to 11.
-use Rattle.std.specs.Prelude.{◌≡◌, refl, Bool, true, false, List, ℕ, ◌≤◌, ◌<◌, leb}
-use Rattle.std.proofs.Common.{sym, ◌∙◌, le-leb}
+use Rattle.std.specs.Prelude.{◌≡◌, refl, Bool, true, false, List, ℕ, ◌<◌, leb}
+use Rattle.std.proofs.Common.{sym, ◌∙◌}
 use Rattle.std.proofs.Math.Path.{ap}
 use Rattle.std.proofs.lemmas.Bool.{lt-leb}
 use Rattle.asyncio.specs.Limits.{task_limit}
@@ -15,7 +15,7 @@ use Rattle.queue.specs.declared.ReadyQueue.{ReadyQueue}
 use Rattle.machine.specs.Tests.{◌and◌, all_below}
 use Rattle.machine.specs.Store.{LogEntry, store_of, task, object, place, header, view}
 use Rattle.machine.specs.Sound.{words_in_range, numbers_in_range, spawned_in_range, items_lower, lists_completed, queue_ready, calls_distinct, one_task, blocked_match, places_filled, slots_open, one_runs, sound_view, sound}
-use Rattle.sound_words.specs.Loops.{pass, stop}
+use Rattle.sound_words.specs.Loops.{stop}
 
 -- every row in use is canonical, for the header h
 unfoldable pub rows_canonical : Header → List ℕ → List ℕ → List ℕ → Bool
@@ -78,27 +78,7 @@ module _ (ts os ps : List ℕ) (q : ReadyQueue) (l : List LogEntry) where
   unfolding sound
   sound_by = rw (words-by, view_by) (front (rows_canonical h ts os ps) (leb q.len task_limit) _)
 
--- ---- the code's early exits
+-- ---- the code's early exit
 
-module _ (ts os ps : List ℕ) (q : ReadyQueue) (l : List LogEntry) where
-  pub sound_long : task_limit < q.len → false ≡ sound (store_of ts os ps q l)
-  sound_long h = rw (sound_by ts os ps q l) (stop _ (sym (lt-leb q.len task_limit h)))
-
-  module _ (s : q.len ≤ task_limit) {h : Header} (e : h ≡ header_at os) where
-    short : true ≡ leb q.len task_limit
-    short = sym (le-leb q.len task_limit s)
-
-    pub sound_worded : false ≡ rows_canonical h ts os ps → false ≡ sound (store_of ts os ps q l)
-    sound_worded a = rw (sound_by ts os ps q l, ← e) (pass short (stop _ a))
-
-    module _ (a : true ≡ rows_canonical h ts os ps) where
-      pub sound_tabled : false ≡ tables_sound h (object_at os) (task_at ts) (place_at ps) → false ≡ sound (store_of ts os ps q l)
-      sound_tabled b = rw (sound_by ts os ps q l, ← e) (pass short (pass a (stop _ b)))
-
-      module _ (b : true ≡ tables_sound h (object_at os) (task_at ts) (place_at ps)) where
-        pub sound_tasked : false ≡ tasks_sound h (object_at os) (task_at ts) (entries q) → false ≡ sound (store_of ts os ps q l)
-        sound_tasked c = rw (sound_by ts os ps q l, ← e) (pass short (pass a (pass b (stop _ c))))
-
-        pub sound-told : {r : Bool} → true ≡ tasks_sound h (object_at os) (task_at ts) (entries q) → r ≡ gathers_sound h (object_at os) (task_at ts) (place_at ps)
-            → r ≡ sound (store_of ts os ps q l)
-        sound-told c d = rw (sound_by ts os ps q l, ← e) (pass short (pass a (pass b (pass c d))))
+pub sound_long : (ts os ps : List ℕ) (q : ReadyQueue) (l : List LogEntry) → task_limit < q.len → false ≡ sound (store_of ts os ps q l)
+sound_long ts os ps q l h = rw (sound_by ts os ps q l) (stop _ (sym (lt-leb q.len task_limit h)))

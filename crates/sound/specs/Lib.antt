@@ -1,4 +1,3 @@
 pub mod FilledLaws
 pub mod SlotLaws
-pub mod RunnerLaws
 pub mod Clauses

@@ -1,7 +1,6 @@
 -- Clause 10: a gather by its kind, and a live task.
 use Rattle.std.specs.Prelude.{◌≡◌, refl, Bool, true, false, List, ℕ}
 use Rattle.asyncio.specs.States.{pick, is_live}
-use Rattle.asyncio.specs.Numbers.{heap_id}
 use Rattle.asyncio.specs.Kinds.{kind, each_object, is_awaited, is_committed}
 use Rattle.asyncio.specs.Parts.{first_of, count_of, awaiter_of, open_of}
 use Rattle.asyncio.specs.declared.Awaiter.{Awaiter}
@@ -43,12 +42,6 @@ module _ (ps : ℕ → Place) (os : List ℕ) (g o : ℕ) {k : Kind} {r : Bool} 
   pub holds_awaited : {i n m : ℕ} → is_awaited k ≡ true → i ≡ first_of (object_at os g) → n ≡ count_of (object_at os g) → m ≡ open_of (object_at os g)
       → ((a : Awaiter) → r ≡ open_from ps (awaited_gather i n a m) o 0 n) → r ≡ is_committed (kind (object_at os g)) and source_open ps (as_awaited (object_at os g)) o
   holds_awaited t f c d h = rw (holds_by ps (object_at os g) o, ← e, t, ← f, ← c, ← d) (h (awaiter_of (object_at os g)))
-
--- ---- an object's own awaiter
-
-module _ (os : List ℕ) (ps : ℕ → Place) (o : ℕ) {h : HeapId} {w : Awaiter} {r : Bool} (e : h ≡ heap_id o) (f : w ≡ awaiter_of (object_at os h.0)) where
-  pub object_slot : r ≡ slot_open (object_at os) ps h.0 w → r ≡ slot_open (object_at os) ps o (awaiter_of (object_at os o))
-  object_slot g = let k : w ≡ awaiter_of (object_at os o) = rw e at f in rw (e, k) at g
 
 -- ---- a live task
 
