@@ -1,5 +1,5 @@
 -- cancel's walk as the code has it: a table of the coroutines' tasks, marks, and a stack of gathers with its depth.
-use Rattle.std.specs.Prelude.{◌≡◌, Bool, List, [], ◌∷◌, ℕ, zero, suc, ◌+◌, ◌≤◌, eqb, length, get_or, set}
+use Rattle.std.specs.Prelude.{◌≡◌, Bool, List, [], ◌∷◌, ℕ, zero, suc, ◌+◌, ◌≤◌, eqb, get_or, set}
 use Rattle.std.proofs.Math.Option.{Option, none, some}
 use denote.Triple.Both.{Both}
 use denote.MutBor.{MutBor}
@@ -12,8 +12,8 @@ use Rattle.queue.specs.declared.ReadyQueue.{ReadyQueue}
 use Rattle.machine.specs.Store.{LogEntry, store_of}
 use Rattle.machine.specs.Scheduler.{AwaitedGather, Walk}
 use Rattle.machine_laws.specs.Statements.{unmarked}
-use Rattle.contract.specs.Contract.{Words, Slice, kept}
-use Rattle.scheduler_cancel.specs.declared.cancel.Walked.{Walked}
+use Rattle.contract.specs.Contract.{Slice, LentQueue, kept}
+use Rattle.scheduler_cancel.specs.declared.cancel.Walk as code
 
 -- ---- the table of the coroutines' tasks: one word for each object
 
@@ -36,6 +36,11 @@ unfoldable pub below : List ℕ → ℕ → List ℕ
 below gs zero = []
 below gs (suc d) = (to_heap_id (get_or gs d 0)).0 ∷ below gs d
 
+-- the queue, and how many gathers are on the stack
+pub record Walked : Type 0 where
+  pub queue : ReadyQueue
+  pub depth : ℕ
+
 abbrev pub walked : ReadyQueue → ℕ → Walked
 walked q d = record { queue = q; depth = d }
 
@@ -54,48 +59,36 @@ awaited_places i n a m = record { first = i; count = n; awaiter = a; open_places
 
 -- ---- what a call of the walk asks, and what it does
 
--- the marks, in a `requires`; in an `ensures` `.entry` before the call, `.exit` after it
-abbrev pub Marks : Type 0
-Marks = List Bool
-
-abbrev pub MarksSlice : Type 0
-MarksSlice = Both (MutBor Marks) (MutBor Marks)
-
--- table and stack have a word for each object
-abbrev pub TableLength : Words → Type 0
-TableLength table = length table ≡ object_limit
-
--- and there is a mark for each
-abbrev pub MarksLength : Marks → Type 0
-MarksLength marks = length marks ≡ object_limit
-
 -- a stack of that depth has room for every gather that is not marked
-abbrev pub HasRoom : Marks → ℕ → Type 0
+abbrev pub HasRoom : List Bool → ℕ → Type 0
 HasRoom marks depth = unmarked marks + depth ≤ object_limit
 
+-- a walk that the call may change, in an `ensures`
+abbrev pub LentWalk : Type 0
+LentWalk = Both (MutBor code.Walk) (MutBor code.Walk)
+
+-- the call leaves the table as it is
+abbrev pub KeepsTable : LentWalk → Type 0
+KeepsTable walk = walk.exit.now.table ≡ walk.entry.now.table
+
 -- The call does what f does of the walk before it, with the log l.
-abbrev pub WalksAt : List LogEntry → Slice → Slice → Slice → Slice → MarksSlice → Slice → Walked → (Walk → Walk) → Walked → Type 0
-WalksAt l table tasks objects places marks stack at f r =
-    Shows table.entry.now tasks.exit.now objects.entry.now places.entry.now r marks.exit.now stack.exit.now
-    (f (walk_of table.entry.now tasks.entry.now objects.entry.now places.entry.now at l marks.entry.now stack.entry.now))
+abbrev pub WalksAt : List LogEntry → LentWalk → Slice → Slice → Slice → LentQueue → (Walk → Walk) → Type 0
+WalksAt l walk tasks objects places queue f =
+    Shows walk.entry.now.table tasks.exit.now objects.entry.now places.entry.now (walked queue.exit.now walk.exit.now.depth) walk.exit.now.marks walk.exit.now.stack
+    (f (walk_of walk.entry.now.table tasks.entry.now objects.entry.now places.entry.now (walked queue.entry.now walk.entry.now.depth) l walk.entry.now.marks walk.entry.now.stack))
 
 -- with every log
-abbrev pub Walks : Slice → Slice → Slice → Slice → MarksSlice → Slice → Walked → (Walk → Walk) → Walked → Type 0
-Walks table tasks objects places marks stack at f r = (l : List LogEntry) → WalksAt l table tasks objects places marks stack at f r
+abbrev pub Walks : LentWalk → Slice → Slice → Slice → LentQueue → (Walk → Walk) → Type 0
+Walks walk tasks objects places queue f = (l : List LogEntry) → WalksAt l walk tasks objects places queue f
 
 -- and whatever the places are
-abbrev pub WalksKeepingPlaces : Slice → Slice → Slice → MarksSlice → Slice → Walked → (Walk → Walk) → Walked → Type 0
-WalksKeepingPlaces table tasks objects marks stack at f r =
-    (ps : List ℕ) (l : List LogEntry) → WalksAt l table tasks objects (kept ps) marks stack at f r
+abbrev pub WalksKeepingPlaces : LentWalk → Slice → Slice → LentQueue → (Walk → Walk) → Type 0
+WalksKeepingPlaces walk tasks objects queue f =
+    (ps : List ℕ) (l : List LogEntry) → WalksAt l walk tasks objects (kept ps) queue f
 
--- and the table
-abbrev pub WalksOfTasks : Slice → Slice → MarksSlice → Slice → Walked → (Walk → Walk) → Walked → Type 0
-WalksOfTasks tasks objects marks stack at f r =
-    (ds ps : List ℕ) (l : List LogEntry) → WalksAt l (kept ds) tasks objects (kept ps) marks stack at f r
-
--- The same of a call that takes no tasks either: it logs nothing, and the depth is what it answers.
-abbrev pub Reaches : Slice → MarksSlice → Slice → ℕ → (Walk → Walk) → ℕ → Type 0
-Reaches objects marks stack depth f r =
-    (ds ts ps : List ℕ) (q : ReadyQueue) (l : List LogEntry) →
-    walk_of ds ts objects.entry.now ps (walked q r) l marks.exit.now stack.exit.now
-    ≡ f (walk_of ds ts objects.entry.now ps (walked q depth) l marks.entry.now stack.entry.now)
+-- The same of a call that takes neither tasks nor queue: it logs nothing.
+abbrev pub Reaches : LentWalk → Slice → (Walk → Walk) → Type 0
+Reaches walk objects f =
+    (ts ps : List ℕ) (q : ReadyQueue) (l : List LogEntry) →
+    walk_of walk.entry.now.table ts objects.entry.now ps (walked q walk.exit.now.depth) l walk.exit.now.marks walk.exit.now.stack
+    ≡ f (walk_of walk.entry.now.table ts objects.entry.now ps (walked q walk.entry.now.depth) l walk.entry.now.marks walk.entry.now.stack)

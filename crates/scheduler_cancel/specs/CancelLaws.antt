@@ -1,5 +1,5 @@
 -- The ways through the functions of cancel, in the shape of what the code knows there.
-use Rattle.std.specs.Prelude.{◌≡◌, Bool, not, length, get_or, set, None, Some}
+use Rattle.std.specs.Prelude.{◌≡◌, Bool, length, get_or, set, None, Some}
 use Rattle.std.proofs.Math.Path.{refl, sym, ap, fun_ext}
 use Rattle.std.proofs.Common.{◌∙◌, get_or-set_same, get_or-set_other, eq-eqb, ne_eqb}
 use Rattle.std.proofs.Math.Bool.{true, false}
@@ -15,7 +15,6 @@ use Rattle.asyncio.specs.States.{pick}
 use Rattle.asyncio.specs.Kinds.{kind, is_awaited}
 use Rattle.asyncio.specs.Parts.{first_of, count_of, awaiter_of, open_of}
 use Rattle.asyncio.specs.Numbers.{to_heap_id}
-use Rattle.asyncio.specs.Ranges.{ObjectFits, PlacesFit}
 use Rattle.asyncio.specs.declared.HeapId.{HeapId}
 use Rattle.asyncio.specs.declared.TaskId.{TaskId}
 use Rattle.asyncio.specs.declared.Awaiter.{Awaiter}
@@ -27,7 +26,7 @@ use Rattle.asyncio.specs.declared.Kind.{Kind}
 use Rattle.asyncio.specs.declared.Header.{Header}
 use Rattle.asyncio.specs.declared.TaskState.{TaskState}
 use Rattle.rows.specs.Tables.{task_at, object_at, place_at, header_at}
-use Rattle.rows.specs.TableLaws.{task_at-fits, object_at-fits, place_at-fits}
+use Rattle.rows.specs.TableLaws.{task_at-fits, place_at-fits}
 use Rattle.queue.specs.declared.ReadyQueue.{ReadyQueue}
 use Rattle.machine.specs.Store.{Store, LogEntry, removed, store_of, task, object, place, header, add_log}
 use Rattle.machine.specs.Scheduler.{AwaitedGather, as_awaited, is_some, blocked_on, task_of_in, task_of, remove_task, cancel_one}
@@ -36,10 +35,9 @@ use Rattle.machine_laws.specs.Statements.{unmarked, walk_rest}
 use Rattle.machine_laws.specs.CycleLaws.{CountsKept, mark-falls, blocked-fits, blocked_counts_kept, place_counts_kept, gather_counts_kept, walk_once, all_unmarked, cancel_walks}
 use Rattle.scheduler.specs.Search.{found_task, found_object}
 use Rattle.scheduler.specs.SearchLaws.{task-found, no_task, object-found, no_object}
-use Rattle.scheduler_cancel.specs.Cancel.{tasks_of_in, below, walked, walk_of, Shows, awaited_places}
+use Rattle.scheduler_cancel.specs.Cancel.{tasks_of_in, below, Walked, walked, walk_of, Shows, awaited_places}
 use Rattle.scheduler.specs.Search.{FoundTask}
 use Rattle.scheduler.specs.Search.{FoundObject}
-use Rattle.scheduler_cancel.specs.declared.cancel.Walked.{Walked}
 
 -- ---- the stack
 

@@ -9,7 +9,6 @@ use Rattle.asyncio.specs.Limits.{task_limit, object_limit}
 use Rattle.asyncio.specs.States.{pick, is_live, is_main}
 use Rattle.asyncio.specs.Numbers.{to_task_id}
 use Rattle.asyncio.specs.RangeLaws.{pick_has}
-use Rattle.asyncio.specs.declared.HeapId.{HeapId}
 use Rattle.asyncio.specs.declared.TaskId.{TaskId}
 use Rattle.asyncio.specs.declared.Task.{Task}
 use Rattle.asyncio.specs.declared.TaskState.{TaskState}

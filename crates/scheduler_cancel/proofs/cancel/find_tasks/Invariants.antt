@@ -8,7 +8,8 @@ use Rattle.scheduler_cancel.specs.Cancel.{tasks_of_in}
 use Rattle.scheduler_cancel.proofs.cancel.find_tasks.Given as goal
 
 abbrev pub invariant-loop-t : goal.invariant-loop-t
-invariant-loop-t l = ((c : ℕ) → tasks_of_in l.table c ≡ first_from (λ u. is_task_of c (task_at l.tasks u)) l.t (l.next - l.t)) × (length l.table ≡ object_limit) × (l.t ≤ l.next) × (min l.next 1 ≤ l.t)
-
-abbrev pub decreases-loop-t : goal.decreases-loop-t
-decreases-loop-t l = l.t
+invariant-loop-t l = record {
+  finds : (c : ℕ) → tasks_of_in l.table c ≡ first_from (λ u. is_task_of c (task_at l.tasks u)) l.t (l.next - l.t);
+  long : length l.table ≡ object_limit;
+  least : min l.next 1 ≤ l.t;
+}
