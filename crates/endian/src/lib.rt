@@ -1,4 +1,5 @@
 // Numbers in lent bytes, low byte first.
+// Kept: a function for each width, as std has from_le_bytes at each type and no trait of it; a trait of our own would be longer than the three.
 #![tactic(auto)]
 
 ghost use Rattle.std.specs.Prelude.{◌≡◌, ◌≤◌, ◌<◌, ◌+◌, ◌^◌, length};

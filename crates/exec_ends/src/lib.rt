@@ -84,6 +84,7 @@ pub fn complete(
 }
 
 // Task `t` fails. Main's end is the session's.
+// Kept beside `complete`: it takes no places, and its clause holds whatever they are (AnswersKeepingPlaces).
 pub fn fail(
     tasks: &mut Tasks,
     objects: &mut Objects,

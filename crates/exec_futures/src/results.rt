@@ -36,7 +36,7 @@ impl ResultKind {
     }
 }
 
-// One result of a batch, as it was sent: the byte of its kind, and a value's tag and number.
+// One result of a batch, as it was sent: the byte of its kind, which may name none (refusal 10), and a value's tag and number.
 #[derive(Clone, Copy, PartialEq, Eq, Debug)]
 pub struct FutureResult {
     pub call: u32,
