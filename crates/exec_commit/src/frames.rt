@@ -21,6 +21,7 @@ pub(crate) struct Frames {
 }
 
 impl Frames {
+    #[tactic(auto, unfolding(crate::specs::Stack::below))]
     pub fn new() -> Frames
         ensures { stack_of result ≡ [] }
     {

@@ -18,6 +18,7 @@ use rows::tables::{load_object, store_object};
 use scheduler_states::awaited::as_awaited;
 
 // A gather with that state; any other object as it is.
+#[tactic(auto, unfolding(machine::specs::Commit::with_state))]
 fn with_state(o: Object, state: GatherState) -> Object
     ensures { result ≡ with_state o state }
 {
@@ -41,6 +42,7 @@ fn set_gather(objects: &mut Objects, g: HeapId, state: GatherState)
 }
 
 // Gather `g` is awaited, with no place open yet.
+#[tactic(auto, unfolding(machine::specs::Commit::open_gather_commit))]
 pub(crate) fn open_gather_commit(objects: &mut Objects, g: HeapId, awaiter: Awaiter)
     requires { g.0 < object_limit }
     ensures { ChangesObjects objects (λ s. open_gather_commit s g.0 awaiter) }

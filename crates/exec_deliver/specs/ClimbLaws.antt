@@ -2,7 +2,7 @@
 use Rattle.std.specs.Prelude.{◌≡◌, refl, List, length, replicate, None, Some}
 use Rattle.std.proofs.Math.Path.{sym}
 use Rattle.std.proofs.Common.{ap, ◌∙◌}
-use Rattle.std.proofs.Math.Option.{Option, none, some}
+use Rattle.std.proofs.Math.Option.{some}
 use Prim.Native.Nat.{ℕ, suc, ◌<◌}
 use Rattle.asyncio.specs.Limits.{object_limit, tasks_length, objects_length, places_length}
 use Rattle.asyncio.specs.Ranges.{AwaiterFits}
@@ -14,10 +14,10 @@ use Rattle.asyncio.specs.declared.Awaiter.{Awaiter}
 use Rattle.asyncio.specs.declared.TaskState.{TaskState}
 use Rattle.queue.specs.declared.ReadyQueue.{ReadyQueue}
 use Rattle.scheduler.specs.Search.{FoundTask}
-use Rattle.machine.specs.Store.{Store, LogEntry, store_of}
+use Rattle.machine.specs.Store.{LogEntry, store_of}
 use Rattle.machine.specs.Delivery.{Delivery, Settled, nobody_woken, deliver_to_task, resolve_child, fail_gather, climb, awaited_in, awaited_count, send_value, send_error, deliver_awaiter_success, deliver_awaiter_failure}
 use Rattle.machine_laws.specs.Views.{Sized}
-use Rattle.machine_laws.specs.DeliveryLaws.{Sent, resolve_sent, fail_sent, success_climbs, failure_climbs}
+use Rattle.machine_laws.specs.DeliveryLaws.{resolve_sent, fail_sent, success_climbs, failure_climbs}
 use Rattle.exec_fill.specs.Delivered.{delivered, settled}
 
 module _ (ts os ps : List ℕ) (q : ReadyQueue) where

@@ -4,7 +4,6 @@ use Rattle.std.proofs.Math.Option.{some}
 use Rattle.asyncio.specs.declared.Value.{Value}
 use Rattle.asyncio.specs.declared.Error.{Error}
 use Rattle.machine.specs.Store.{Store}
-use Rattle.machine.specs.Scheduler.{PendingExternal}
 use Rattle.machine.specs.Delivery.{settle_found, resolve_pending, fail_pending}
 
 -- object o, if it is a pending external, is resolved

@@ -1,4 +1,5 @@
-// Up the gathers: deliver_awaiter_success, deliver_awaiter_failure.
+// Up the gathers: deliver_awaiter_success, deliver_awaiter_failure. Kept as two loops: a failure takes no places, and its error goes on as it
+// is; one loop over two closures would be longer than both.
 ghost use Rattle.asyncio.specs.Ranges.{AwaiterFits};
 ghost use Rattle.machine.specs.Delivery.{deliver_awaiter_success, deliver_awaiter_failure};
 ghost use Rattle.exec_deliver.specs.Delivers.{Delivers, DeliversKeepingPlaces};

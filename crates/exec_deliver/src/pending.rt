@@ -16,6 +16,7 @@ pub(crate) struct PendingExternal {
 }
 
 // Object `o` as a pending external, if it is one.
+#[tactic(auto, unfolding(machine::specs::Scheduler::as_pending))]
 pub(crate) fn as_pending(objects: &Objects, o: HeapId) -> Option<PendingExternal>
     requires { o.0 < object_limit }
     ensures { option_pending result ≡ as_pending (object_at objects.now o.0) }

@@ -5,7 +5,6 @@ use Rattle.asyncio.specs.Numbers.{heap_id}
 use Rattle.asyncio.specs.States.{pick}
 use Rattle.asyncio.specs.declared.HeapId.{HeapId}
 use Rattle.asyncio.specs.declared.Value.{Value}
-use Rattle.asyncio.specs.declared.Place.{Place}
 use Rattle.rows.specs.Tables.{place_at, place_put}
 use Rattle.machine.specs.Scheduler.{bit}
 use Rattle.machine.specs.Delivery.{Filled, filled, fill_one, fill_from}

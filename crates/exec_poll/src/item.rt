@@ -27,6 +27,7 @@ pub enum Poll {
 }
 
 // External `o` of that call and in that state: settled, or it takes the awaiter if it has none (await_external_future).
+#[tactic(auto, unfolding(machine::specs::Commit::await_external))]
 pub fn await_external(
     objects: &mut Objects,
     o: HeapId,
@@ -79,6 +80,7 @@ fn item_coroutine(
 }
 
 // Gather `o` in that state: polled (poll_settled_gather), or none where it is pending, and so must be committed first.
+#[tactic(auto, unfolding(machine::specs::Commit::item_gather))]
 fn item_gather(o: HeapId, state: GatherState) -> Option<Poll>
     ensures { (s : Store) → with_item s result ≡ itemed s (item_gather s o.0 state) }
 {

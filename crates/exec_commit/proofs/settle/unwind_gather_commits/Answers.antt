@@ -5,12 +5,6 @@ use Rattle.exec_commit.specs.SettleLaws.{unwind-turns, unwind-ends}
 use Rattle.exec_commit.proofs.StackLaws.{popped, nothing_popped, length-pushed}
 use Rattle.exec_commit.proofs.settle.unwind_gather_commits.Goals as goal
 
-pub loop-frame-init : goal.loop-frame-init
-loop-frame-init c = ((λ ts ps q k. refl), c.requires.gathers.1, c.requires.room)
-
-pub pop-requires : goal.pop-requires
-pop-requires c = c.loop-frame.invariant.2
-
 pub set_gather-requires-in-Some : goal.set_gather-requires-in-Some
 unfolding GathersFit
 set_gather-requires-in-Some c = (rw (popped c.pop.ensures c.in-Some.is) at c.loop-frame.invariant.1).0

@@ -1,10 +1,5 @@
-use Rattle.machine.specs.Commit.{with_state}
 use Rattle.exec_commit.proofs.NoGather.{no_gather}
 use Rattle.exec_commit.proofs.settle.with_state.Goals as goal
-
-pub returns-in-GatherFuture : goal.returns-in-GatherFuture
-unfolding with_state
-returns-in-GatherFuture c = rw c.in-GatherFuture.is
 
 pub returns-in_default : goal.returns-in_default
 returns-in_default c = no_gather _ _ c.in_default.not-GatherFuture

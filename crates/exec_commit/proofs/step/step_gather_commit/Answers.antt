@@ -7,9 +7,6 @@ use Rattle.exec_commit.proofs.step.step_gather_commit.Goals as goal
 pub loop-i-init : goal.loop-i-init
 loop-i-init c = (walk_begins _ _ _ _ _ _ c.count_at-count.ensures, c.told-tasks, c.told-objects, c.told-places, c.count_at-count.ensures)
 
-pub step_item-requires : goal.step_item-requires
-step_item-requires c = (c.requires, omega (arith, c.loop-i.invariant.4))
-
 pub returns-in-Some : goal.returns-in-Some
 returns-in-Some c = walk-stops _ _ _ _ _ _ _ _ c.loop-i.invariant.0 c.loop-i-test.true _ _ _ _ _ c.step_item.ensures _ c.in-Some.is
 

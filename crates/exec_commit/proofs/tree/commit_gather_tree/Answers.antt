@@ -8,12 +8,6 @@ loop-at-init c =
     let e = c.new-waiting.ensures in
     (tree_begins _ _ _ _ _ e, no_frame_placed _ e, c.told-tasks, omega arith, c.told-places, c.requires, begins_low _ e, begins-few _ e)
 
-pub step_gather_commit-stop-requires : goal.step_gather_commit-stop-requires
-step_gather_commit-stop-requires c = c.loop-at.invariant.5
-
-pub overflow_add-steps : goal.overflow_add-steps
-overflow_add-steps c = omega (arith, c.loop-at.invariant.7)
-
 pub push-requires : goal.push-requires
 push-requires c = omega (arith, c.loop-at.invariant.6, nested-room _ _ _ _ _ _ c.loop-at.invariant.2 c.loop-at.invariant.3 c.loop-at.invariant.4 c.loop-at.invariant.5 _ _ _ _ _ c.step_gather_commit-stop.ensures _ _ c.in-Nested.is)
 
@@ -34,12 +28,6 @@ loop-at-preserved-in-Nested c = (
   omega (arith, c.loop-at.invariant.6, length-pushed c.push.ensures, nested-falls _ _ _ _ _ _ c.loop-at.invariant.2 c.loop-at.invariant.3 c.loop-at.invariant.4 c.loop-at.invariant.5 _ _ _ _ _ c.step_gather_commit-stop.ensures _ _ c.in-Nested.is _ _ (c.open_gather_commit-in-Nested.ensures _ _ _ _)),
   omega (arith, c.loop-at.invariant.7, length-pushed c.push.ensures, nested-falls _ _ _ _ _ _ c.loop-at.invariant.2 c.loop-at.invariant.3 c.loop-at.invariant.4 c.loop-at.invariant.5 _ _ _ _ _ c.step_gather_commit-stop.ensures _ _ c.in-Nested.is _ _ (c.open_gather_commit-in-Nested.ensures _ _ _ _)),
 )
-
-pub settle_gather_commit-poll-requires : goal.settle_gather_commit-poll-requires
-settle_gather_commit-poll-requires c = c.loop-at.invariant.5
-
-pub pop-requires : goal.pop-requires
-pop-requires c = omega (arith, c.loop-at.invariant.6)
 
 pub returns-in_default : goal.returns-in_default
 returns-in_default c = λ l. tree_result c.args.tasks.now c.args.objects.now c.args.places.now c.args.queue.now c.args.root.0 c.args.awaiter l (c.open_gather_commit.ensures _ _ _ l) _ _ _ _ _ _ (tree_root _ _ _ _ _ _ c.loop-at.invariant.2 c.loop-at.invariant.3 c.loop-at.invariant.4 c.loop-at.invariant.5 _ _ _ _ _ c.step_gather_commit-stop.ensures _ _ c.loop-at.steps c.loop-at.invariant.1 c.loop-at.invariant.0 c.in-End.is (nothing_popped _ _ _ c.pop.ensures c.in_default.not-Some) _ _ (λ l. c.settle_gather_commit-poll.ensures _ _ _ l) l)

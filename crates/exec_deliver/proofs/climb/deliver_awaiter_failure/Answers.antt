@@ -1,24 +1,15 @@
 use mathlib.Core.List.{[]}
-use mathlib.Core.Path.{refl, ◌∙◌}
+use mathlib.Core.Path.{◌∙◌}
 use native.Mathlib.Omega.{arith}
 use Rattle.queue.specs.Queue.{empty_queue}
 use Rattle.exec_deliver.specs.ClimbLaws.{error-nobody, error-to_task, error-stays, error_climbs, error-fits, error-falls, some-places, some_places_long}
 use Rattle.exec_deliver.proofs.climb.deliver_awaiter_failure.Goals as goal
 
-pub loop-to-init : goal.loop-to-init
-loop-to-init c = ((λ q ps l z. refl), c.told-tasks, c.told-objects, c.requires)
-
 pub returns-in-Nobody : goal.returns-in-Nobody
 returns-in-Nobody c = λ q ps l z. error-nobody c.loop-to.tasks c.loop-to.objects ps q c.args.error l (rw c.in-Nobody.is at (c.loop-to.invariant.0 q ps l z))
 
-pub deliver_to_task-requires : goal.deliver_to_task-requires
-deliver_to_task-requires c = rw c.in-Task.is at c.loop-to.invariant.3
-
 pub returns-in-Task : goal.returns-in-Task
 returns-in-Task c = λ q ps l z. error-to_task c.loop-to.tasks c.loop-to.objects ps q c.args.error l c.in-Task.t (rw c.in-Task.is at (c.loop-to.invariant.0 q ps l z)) c.deliver_to_task.result (c.deliver_to_task.ensures q c.loop-to.objects ps l)
-
-pub fail-requires : goal.fail-requires
-fail-requires c = (rw c.in-GatherSlot.is at c.loop-to.invariant.3).0
 
 pub returns-in_err-to-in-GatherSlot : goal.returns-in_err-to-in-GatherSlot
 returns-in_err-to-in-GatherSlot c = λ q ps l z. rw c.from_residual.ensures (error-stays c.loop-to.tasks c.loop-to.objects ps q c.args.error c.in-GatherSlot.gather _ l (rw c.in-GatherSlot.is at (c.loop-to.invariant.0 q ps l z)) (rw c.in_err-to-in-GatherSlot.was at (c.fail.ensures c.loop-to.tasks ps q l)))

@@ -1,24 +1,15 @@
 use mathlib.Core.List.{[]}
-use mathlib.Core.Path.{refl, ◌∙◌}
+use mathlib.Core.Path.{◌∙◌}
 use native.Mathlib.Omega.{arith}
 use Rattle.queue.specs.Queue.{empty_queue}
 use Rattle.exec_deliver.specs.ClimbLaws.{nobody, to_task, stays, climbs, climb-fits, climb-falls}
 use Rattle.exec_deliver.proofs.climb.deliver_awaiter_success.Goals as goal
 
-pub loop-to-init : goal.loop-to-init
-loop-to-init c = ((λ q l. refl), c.told-tasks, c.told-objects, c.told-places, c.requires)
-
 pub returns-in-Nobody : goal.returns-in-Nobody
 returns-in-Nobody c = λ q l. nobody c.loop-to.tasks c.loop-to.objects c.loop-to.places q l c.loop-to.given (rw c.in-Nobody.is at (c.loop-to.invariant.0 q l))
 
-pub deliver_to_task-requires : goal.deliver_to_task-requires
-deliver_to_task-requires c = rw c.in-Task.is at c.loop-to.invariant.4
-
 pub returns-in-Task : goal.returns-in-Task
 returns-in-Task c = λ q l. to_task c.loop-to.tasks c.loop-to.objects c.loop-to.places q l c.in-Task.t c.loop-to.given (rw c.in-Task.is at (c.loop-to.invariant.0 q l)) c.deliver_to_task.result (c.deliver_to_task.ensures q c.loop-to.objects c.loop-to.places l)
-
-pub resolve_child-requires : goal.resolve_child-requires
-resolve_child-requires c = (rw c.in-GatherSlot.is at c.loop-to.invariant.4).0
 
 pub returns-in_err-to-in-GatherSlot : goal.returns-in_err-to-in-GatherSlot
 returns-in_err-to-in-GatherSlot c = λ q l. rw c.from_residual.ensures (stays c.loop-to.tasks c.loop-to.objects c.loop-to.places q c.in-GatherSlot.gather c.in-GatherSlot.source c.loop-to.given l (rw c.in-GatherSlot.is at (c.loop-to.invariant.0 q l)) (rw c.in_err-to-in-GatherSlot.was at (c.resolve_child.ensures c.loop-to.tasks q l)))

@@ -1,4 +1,3 @@
-use Rattle.machine.specs.Scheduler.{as_pending}
 use Rattle.exec_deliver.proofs.NotPending.{no_external, external_settled}
 use Rattle.exec_deliver.proofs.pending.as_pending.Goals as goal
 
@@ -7,7 +6,3 @@ returns-in_default c = no_external _ c.load_object.ensures c.in_default.not-Exte
 
 pub returns-in_default-state : goal.returns-in_default-state
 returns-in_default-state c = external_settled c.load_object.ensures _ _ c.in-ExternalFuture.is c.in_default-state.not-Pending
-
-pub returns : goal.returns
-unfolding as_pending
-returns c = rw (← c.load_object.ensures, c.in-ExternalFuture.is, c.in-Pending.is)
