@@ -101,8 +101,7 @@ pub(crate) fn unwind_gather_commits(
     mut waiting: Frames,
     error: Error,
 )
-    requires room { length (stack_of waiting) ≤ object_limit }
-    requires gathers { (g.0 < object_limit) × GathersFit (stack_of waiting) }
+    requires { (g.0 < object_limit) × (length (stack_of waiting) ≤ object_limit) × GathersFit (stack_of waiting) }
     ensures { Unwinds objects g.0 (stack_of waiting) error }
 {
     set_gather(objects, g, GatherState::Failed(error));

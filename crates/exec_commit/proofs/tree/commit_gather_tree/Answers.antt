@@ -54,7 +54,7 @@ loop-at-preserved c = (
 )
 
 pub unwind_gather_commits-requires : goal.unwind_gather_commits-requires
-unwind_gather_commits-requires c = record { room = omega (arith, c.loop-at.invariant.6); gathers = (c.loop-at.invariant.5, gathers_fit _ _ c.loop-at.invariant.1) }
+unwind_gather_commits-requires c = (c.loop-at.invariant.5, omega (arith, c.loop-at.invariant.6), gathers_fit _ _ c.loop-at.invariant.1)
 
 pub returns-in-Raised : goal.returns-in-Raised
 returns-in-Raised c = λ l. tree_result c.args.tasks.now c.args.objects.now c.args.places.now c.args.queue.now c.args.root.0 c.args.awaiter l (c.open_gather_commit.ensures _ _ _ l) _ _ _ _ _ _ (tree_raised _ _ _ _ _ _ c.loop-at.invariant.2 c.loop-at.invariant.3 c.loop-at.invariant.4 c.loop-at.invariant.5 _ _ _ _ _ c.step_gather_commit-stop.ensures _ _ c.loop-at.steps c.loop-at.invariant.1 c.loop-at.invariant.0 _ c.in-Raised.is _ (λ l. c.unwind_gather_commits.ensures _ _ c.loop-at.top.next _ l) l)
