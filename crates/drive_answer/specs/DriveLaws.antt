@@ -17,10 +17,9 @@ use Rattle.exec_switch.specs.declared.answer.Answer.{Answer}
 use Rattle.step_checks.specs.Checked.{checked}
 use Rattle.step_checks.specs.Lent.{lent_of}
 use Rattle.step_checks.specs.LentLaws.{logs}
-use Rattle.step_read.specs.Reads.{show_answer}
-use Rattle.step_read.specs.declared.Reading.{Reading}
+use Rattle.step_read.specs.Reads.{Reading, show_answer}
 use Rattle.drive_reader.specs.declared.Record.{Record}
-use Rattle.drive_reader.specs.declared.Parsed.{Parsed}
+use Rattle.drive_reader.specs.Parsed.{at_end, no_record, a_record}
 use Rattle.drive_reader.specs.Format.{parse}
 use Rattle.drive_reader.specs.ParseLaws.{results_inside}
 use Rattle.drive_text.specs.Out.{Out, Wrote}
@@ -141,7 +140,7 @@ part_is src first n = let e : first + n - first ≡ n = omega arith in rw e
 -- ---- what a record asks
 
 -- what a record that was read asks stands in the input
-pub asks_inside : (src : List ℕ) (from : ℕ) (r : Record) {next : ℕ} → parse src from ≡ Parsed.Record r next → InInput src r
+pub asks_inside : (src : List ℕ) (from : ℕ) (r : Record) {next : ℕ} → parse src from ≡ a_record r next → InInput src r
 asks_inside src from (Record.Coroutine f) e = tt
 asks_inside src from Record.Call e = tt
 asks_inside src from (Record.Pending c x) e = tt
@@ -177,14 +176,14 @@ asks_drove src {r} {x} u l next number a w =
 
 -- the end of the input
 pub end_drove : (ts os ps : List ℕ) (q : ReadyQueue) (k : List LogEntry) (l src : List ℕ) (from number : ℕ) {x : Out}
-    → parse src from ≡ Parsed.End
+    → parse src from ≡ at_end
     → Drove ts os ps q l from false x x (drive_one (store_of ts os ps q k) l src from number)
 unfolding drive_one drive_by
 end_drove ts os ps q k l src from number e = rw e (record { store_is = refl; list_is = refl; next_is = refl; going_is = refl; wrote = at_most (omega arith) (wrote_none _) })
 
 -- no record
 pub none_drove : (ts os ps : List ℕ) (q : ReadyQueue) (k : List LogEntry) (l src : List ℕ) (from number : ℕ) {x y : Out}
-    → parse src from ≡ Parsed.Refused
+    → parse src from ≡ no_record
     → Wrote 50 x y (line number (machine.Answer.refused 11))
     → Drove ts os ps q l from false x y (drive_one (store_of ts os ps q k) l src from number)
 unfolding drive_one drive_by
@@ -192,7 +191,7 @@ none_drove ts os ps q k l src from number e w = rw e (refused_drove ts os ps q k
 
 -- a record is what it asks, answered
 pub record_drives : (u : Store) (l src : List ℕ) (from number : ℕ) {r : Record} {next : ℕ}
-    → parse src from ≡ Parsed.Record r next
+    → parse src from ≡ a_record r next
     → answered u l next number (asked src r) ≡ drive_one u l src from number
 unfolding drive_one drive_by
 record_drives u l src from number e = rw e

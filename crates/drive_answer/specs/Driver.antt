@@ -1,11 +1,12 @@
 -- Document 01's driver: one record to one line ("The driver").
+use Rattle.std.specs.Prelude.{None, Some, Ok, Err}
 use Rattle.std.specs.Prelude.{ℕ, ◌*◌, Bool, true, false, List, [], take, drop}
 use Rattle.machine.specs.Store.{Store}
 use Rattle.machine.specs.Events.{Result}
 use Rattle.machine.specs.Machine.{Event, Answer}
 use Rattle.machine.specs.Lent.{Lent, lent_step, lent_read}
 use Rattle.drive_reader.specs.declared.Record.{Record}
-use Rattle.drive_reader.specs.declared.Parsed.{Parsed}
+use Rattle.drive_reader.specs.Parsed.{Parsed}
 use Rattle.drive_reader.specs.Format.{parse}
 use Rattle.drive_reader.specs.Items.{items_at}
 use Rattle.exec_futures.specs.Results.{results_in}
@@ -60,9 +61,9 @@ answered s l next number (Asked.read e) = record { store = s; list = l; text = l
 
 -- by what was read: at the end of the input there is no line; what is no record is refused
 unfoldable pub drive_by : Store → List ℕ → List ℕ → ℕ → ℕ → Parsed → Drives
-drive_by s l src from number Parsed.End = record { store = s; list = l; text = []; next = from; going = false }
-drive_by s l src from number Parsed.Refused = refused_11 s l from number
-drive_by s l src from number (Parsed.Record r next) = answered s l next number (asked src r)
+drive_by s l src from number (Ok None) = record { store = s; list = l; text = []; next = from; going = false }
+drive_by s l src from number (Ok (Some f)) = answered s l f.next number (asked src f.what)
+drive_by s l src from number (Err e) = refused_11 s l from number
 
 -- The record at a place: the store, the call list, the input's bytes, the place, and the record's number.
 unfoldable pub drive_one : Store → List ℕ → List ℕ → ℕ → ℕ → Drives

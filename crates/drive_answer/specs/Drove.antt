@@ -1,11 +1,12 @@
 -- What the code has after a record, and what it asks of one.
+use Rattle.std.specs.Prelude.{None, Some, Ok, Err}
 use Rattle.std.specs.Prelude.{◌≡◌, Bool, List, ℕ, ◌+◌, ◌*◌, ◌≤◌, ◌<◌, length}
 use Rattle.asyncio.specs.Limits.{u32_limit}
 use Rattle.queue.specs.declared.ReadyQueue.{ReadyQueue}
 use Rattle.machine.specs.Store.{Store, LogEntry, store_of}
 use Rattle.machine.specs.Machine as machine
 use Rattle.drive_reader.specs.declared.Record.{Record}
-use Rattle.drive_reader.specs.declared.Parsed.{Parsed}
+use Rattle.drive_reader.specs.Parsed.{Parsed}
 use Rattle.drive_reader.specs.Format.{parse}
 use Rattle.contract.specs.Contract.{Words, Slice, before}
 use Rattle.drive_text.specs.Out.{Out, out_of, Wrote}
@@ -71,9 +72,9 @@ RecordFits Record.Eager = Unit {0}
 
 -- those of the record that was read, if there is one
 abbrev pub ParsedFits : Parsed → Type 0
-ParsedFits Parsed.End = Unit {0}
-ParsedFits Parsed.Refused = Unit {0}
-ParsedFits (Parsed.Record r next) = RecordFits r
+ParsedFits (Ok None) = Unit {0}
+ParsedFits (Ok (Some f)) = RecordFits f.what
+ParsedFits (Err e) = Unit {0}
 
 -- The call reads the record at a place of the input, answers it and writes its line; the numbers that it stores whole fit.
 abbrev pub DrivesRecord : Slice → Slice → Slice → Slice → ReadyQueue → Words → ℕ → Slice → ℕ → ℕ → Driven → Type 0

@@ -1,6 +1,7 @@
 // What a record asks, answered by the library, and its line. The store is sound, as it is in a session: it is not checked at each record.
-ghost use Rattle.std.specs.Prelude.{List, ℕ, ◌+◌, ◌*◌, ◌≤◌, length};
+ghost use Rattle.std.specs.Prelude.{◌≡◌, List, ℕ, ◌+◌, ◌*◌, ◌≤◌, length};
 ghost use Rattle.machine.specs.Machine as machine;
+ghost use Rattle.exec_switch.specs.Answer.{answer_or};
 ghost use Rattle.contract.specs.Contract.{kept};
 ghost use Rattle.contract.specs.Entries.{SoundMemory, SoundMemoryAnd, SoundSlices};
 ghost use Rattle.step_event.specs.EventOf.{event_of};
@@ -9,7 +10,11 @@ ghost use Rattle.drive_answer.specs.Driver.{Asked, asked, results_at};
 ghost use Rattle.drive_answer.specs.Drove.{WritesAnswer, WritesEvent, InInput, RecordFits};
 
 use asyncio::RESULT_BYTES;
+use drive_lines::answers::write_line;
 use drive_reader::Record;
+use drive_shows::shows::write_reading;
+use drive_text::Writer;
+use exec_switch::answer::{Answer, Refusal};
 use queue::ReadyQueue;
 use step_event::Event;
 
@@ -31,6 +36,27 @@ pub struct Asks {
     pub count: u8,
 }
 
+// An event without results.
+fn event_alone(event: Event) -> Asks
+    ensures { result ≡ record { event = event; first = 0; count = 0 } }
+{
+    Asks {
+        event,
+        first: 0,
+        count: 0,
+    }
+}
+
+// An answer, or a refusal as one.
+fn answer_or(answered: Result<Answer, Refusal>) -> Answer
+    ensures { result ≡ answer_or answered }
+{
+    match answered {
+        Ok(answer) => answer,
+        Err(refusal) => Answer::Refused(refusal),
+    }
+}
+
 // An event and its line.
 fn event_line(
     tasks: &mut [u64],
@@ -50,13 +76,11 @@ fn event_line(
     ensures { WritesEvent tasks objects places calls queue out at next number (event_of items.now results.now event) result }
 {
     let stepped = step_event::step(tasks, objects, places, calls, queue, event, items, results);
-    let q = stepped.queue;
-    let answer = stepped.answer;
-    let count = stepped.calls;
-    let end = drive_lines::answers::write_line(out, at, number, answer, &calls[..count]);
+    let mut line = Writer::new(out, at);
+    write_line(&mut line, number, stepped.answer, &calls[..stepped.calls]);
     Driven {
-        queue: q,
-        at: end,
+        queue: stepped.queue,
+        at: line.at,
         next,
         going: true,
     }
@@ -83,11 +107,14 @@ fn gather_line(
     let mut items: [u16; 255] = [0; 255];
     let n = count as usize;
     drive_reader::items::gather_items(src, first, n, &mut items);
-    let answer = step_make::gather(objects, places, &items[..n]);
-    let end = drive_lines::answers::write_line(out, at, number, answer, &calls[..0]);
+    let store_objects = objects.as_mut_array().unwrap();
+    let store_places = places.as_mut_array().unwrap();
+    let made = step_make::gather(store_objects, store_places, &items[..n]);
+    let mut line = Writer::new(out, at);
+    write_line(&mut line, number, answer_or(made), &calls[..0]);
     Driven {
         queue,
-        at: end,
+        at: line.at,
         next,
         going: true,
     }
@@ -108,11 +135,12 @@ fn show_line(
     requires { SoundSlices tasks.now objects.now places.now queue }
     ensures { (cs : List ℕ) → WritesAnswer (kept tasks.now) (kept objects.now) (kept places.now) (kept cs) queue out at next number (Asked.read (machine.Event.show o)) result }
 {
-    let reading = step_read::show(objects, o);
-    let end = drive_shows::shows::write_reading(out, at, number, reading, places);
+    let reading = step_read::show(objects.as_array().unwrap(), o);
+    let mut line = Writer::new(out, at);
+    write_reading(&mut line, number, reading, places);
     Driven {
         queue,
-        at: end,
+        at: line.at,
         next,
         going: true,
     }
@@ -133,11 +161,12 @@ fn eager_line(
     requires { SoundSlices tasks.now objects.now places.now queue }
     ensures { WritesAnswer (kept tasks.now) (kept objects.now) (kept places.now) (kept calls.now) queue out at next number (Asked.read machine.Event.eager) result }
 {
-    let answer = step_read::eager(objects, queue);
-    let end = drive_lines::answers::write_line(out, at, number, answer, &calls[..0]);
+    let answer = step_read::eager(objects.as_array().unwrap(), &queue);
+    let mut line = Writer::new(out, at);
+    write_line(&mut line, number, answer, &calls[..0]);
     Driven {
         queue,
-        at: end,
+        at: line.at,
         next,
         going: true,
     }
@@ -161,61 +190,25 @@ pub fn answered(
     ensures { WritesAnswer tasks objects places calls queue out at next number (asked src.now what) result × RecordFits what }
 {
     let asks = match what {
-        Record::Coroutine(f) => Asks {
-            event: Event::Coroutine(f),
-            first: 0,
-            count: 0,
-        },
-        Record::Call => Asks {
-            event: Event::Call,
-            first: 0,
-            count: 0,
-        },
-        Record::Pending { call, stored } => Asks {
-            event: Event::Pending { call, stored },
-            first: 0,
-            count: 0,
-        },
-        Record::Settled(v) => Asks {
-            event: Event::Settled(v),
-            first: 0,
-            count: 0,
-        },
+        Record::Coroutine(f) => event_alone(Event::Coroutine(f)),
+        Record::Call => event_alone(Event::Call),
+        Record::Pending { call, stored } => event_alone(Event::Pending { call, stored }),
+        Record::Settled(v) => event_alone(Event::Settled(v)),
         Record::Gather { first, count } => {
             return gather_line(
                 tasks, objects, places, calls, queue, src, first, count, next, out, at, number,
             );
         }
-        Record::Await(o) => Asks {
-            event: Event::Await(o),
-            first: 0,
-            count: 0,
-        },
-        Record::Complete(v) => Asks {
-            event: Event::Complete(v),
-            first: 0,
-            count: 0,
-        },
-        Record::Fail(n) => Asks {
-            event: Event::Fail(n),
-            first: 0,
-            count: 0,
-        },
+        Record::Await(o) => event_alone(Event::Await(o)),
+        Record::Complete(v) => event_alone(Event::Complete(v)),
+        Record::Fail(n) => event_alone(Event::Fail(n)),
         Record::Results { first, count } => Asks {
             event: Event::Results,
             first,
             count,
         },
-        Record::Resume => Asks {
-            event: Event::Resume,
-            first: 0,
-            count: 0,
-        },
-        Record::Cancel(t) => Asks {
-            event: Event::Cancel(t),
-            first: 0,
-            count: 0,
-        },
+        Record::Resume => event_alone(Event::Resume),
+        Record::Cancel(t) => event_alone(Event::Cancel(t)),
         Record::Show(o) => {
             return show_line(tasks, objects, places, queue, o, next, out, at, number);
         }

@@ -1,4 +1,5 @@
 -- A session's store is sound: from its beginning, and after every record. So the program need not check it.
+use Rattle.std.specs.Prelude.{None, Some, Ok, Err}
 use Rattle.std.specs.Prelude.{◌≡◌, Bool, true, List, [], ℕ, ◌≤◌, length}
 use Rattle.std.proofs.Math.Path.{refl, subst}
 use Rattle.std.proofs.Common.{sym, ap, ◌∙◌}
@@ -18,7 +19,7 @@ use Rattle.exec_switch.specs.Answer.{stepped_of}
 use Rattle.exec_switch.specs.declared.answer.Answer.{Answer}
 use Rattle.drive_text.specs.Out.{Out}
 use Rattle.drive_reader.specs.declared.Record.{Record}
-use Rattle.drive_reader.specs.declared.Parsed.{Parsed}
+use Rattle.drive_reader.specs.Parsed.{Parsed}
 use Rattle.drive_reader.specs.Format.{parse}
 use Rattle.drive_answer.specs.Driver.{Asked, asked, refused_11, answered, drive_by, drive_one}
 use Rattle.drive_answer.specs.Drove.{Drove, RecordFits, ParsedFits}
@@ -57,9 +58,9 @@ unfolding drive_one drive_by refused_11
 drives_sound_store s l src from number h i = by (parse src from) i
   where
     by : (p : Parsed) → ParsedFits p → SoundStore (drive_by s l src from number p).store
-    by Parsed.End j = h
-    by Parsed.Refused j = h
-    by (Parsed.Record r next) j = answered_sound_store s l next number (asked src r) h (asked-fits src r j)
+    by (Ok None) j = h
+    by (Err n) j = h
+    by (Ok (Some f)) j = answered_sound_store s l f.next number (asked src f.what) h (asked-fits src f.what j)
 
 -- ---- what the code has, which has no log
 

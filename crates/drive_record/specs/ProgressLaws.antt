@@ -1,10 +1,11 @@
 -- The driver goes on: each record's place is behind the last one's and within the input, so that every record is met once and the whole
 -- input is read, or an 11 is answered.
+use Rattle.std.specs.Prelude.{None, Some, Ok, Err}
 use Rattle.std.specs.Prelude.{◌≡◌, refl, Bool, true, false, List, [], ◌++◌, ℕ, zero, suc, ◌+◌, ◌-◌, ◌<◌, ◌≤◌, length}
 use Rattle.std.proofs.Common.{sym, ap, ◌∙◌, true≢false, arith}
 use Rattle.asyncio.specs.States.{pick}
 use Rattle.machine.specs.Store.{Store}
-use Rattle.drive_reader.specs.declared.Parsed.{Parsed}
+use Rattle.drive_reader.specs.Parsed.{Parsed}
 use Rattle.drive_reader.specs.Format.{parse}
 use Rattle.drive_reader.specs.ParseLaws.{parse_inside}
 use Rattle.drive_answer.specs.Driver.{Asked, asked, Drives, refused_11, answered, drive_by, drive_one}
@@ -26,11 +27,11 @@ unfolding drive_one drive_by refused_11
 going_on s l src from number h = by (parse src from) refl h
   where
     by : (p : Parsed) → parse src from ≡ p → (drive_by s l src from number p).going ≡ true → Onward src from (drive_by s l src from number p).next
-    by Parsed.End e g = absurd (true≢false (sym g))
-    by Parsed.Refused e g = absurd (true≢false (sym g))
-    by (Parsed.Record r next) e g =
+    by (Ok None) e g = absurd (true≢false (sym g))
+    by (Err n) e g = absurd (true≢false (sym g))
+    by (Ok (Some f)) e g =
         let i = parse_inside src from e in
-        rw (answered-next s l next number (asked src r)) (record { behind = i.behind; within = i.within })
+        rw (answered-next s l f.next number (asked src f.what)) (record { behind = i.behind; within = i.within })
 
 -- ---- the whole input
 

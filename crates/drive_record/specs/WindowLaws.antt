@@ -1,5 +1,6 @@
 -- A part of the input is enough to drive a record: what follows makes no difference where the record is whole, or where as many bytes are
 -- left as a record can have; without the bytes in front the record is driven the same, its next place counted from the new start.
+use Rattle.std.specs.Prelude.{None, Some, Ok, Err}
 use Rattle.std.specs.Prelude.{◌≡◌, length, take, drop}
 use Rattle.std.proofs.Math.Path.{refl, ap}
 use Rattle.std.proofs.Common.{sym, ◌∙◌, length-drop, drop-drop}
@@ -12,7 +13,7 @@ use Rattle.std.proofs.Math.Seq.{get_or-drop}
 use Rattle.machine.specs.Store.{Store}
 use Rattle.machine.specs.Machine.{Event}
 use Rattle.drive_reader.specs.declared.Record.{Record}
-use Rattle.drive_reader.specs.declared.Parsed.{Parsed}
+use Rattle.drive_reader.specs.Parsed.{Parsed, a_record}
 use Rattle.drive_reader.specs.Format.{parse}
 use Rattle.drive_reader.specs.Items.{items_at}
 use Rattle.drive_reader.specs.ParseLaws.{EndsAt, parse_inside}
@@ -58,12 +59,12 @@ module _ (s t : List ℕ) where
     drive-same h = ap (drive_by u l (s ++ t) at number) h ∙ by (parse s at) refl
       where
         by : (p : Parsed) → parse s at ≡ p → drive_by u l (s ++ t) at number p ≡ drive_by u l s at number p
-        by Parsed.End e = refl
-        by Parsed.Refused e = refl
-        by (Parsed.Record r next) e = let i = parse_inside s at e in ap (answered u l next number) (asked-longer r next i.ends i.within)
+        by (Ok None) e = refl
+        by (Err n) e = refl
+        by (Ok (Some f)) e = let i = parse_inside s at e in ap (answered u l f.next number) (asked-longer f.what f.next i.ends i.within)
 
     -- A record that is whole.
-    pub drive_longer : {r : Record} {next : ℕ} → parse s at ≡ Parsed.Record r next → drive_one u l (s ++ t) at number ≡ drive_one u l s at number
+    pub drive_longer : {r : Record} {next : ℕ} → parse s at ≡ a_record r next → drive_one u l (s ++ t) at number ≡ drive_one u l s at number
     drive_longer e = drive-same (parse_longer s t at e ∙ sym e)
 
     -- Whatever stands there, where as many bytes are left as a record can have. (Byte 3 is a byte.)
@@ -108,6 +109,6 @@ module _ (s : List ℕ) (k : ℕ) where
   drive-moved u l at number = ap (drive_by u l s (k + at) number) (parse-rest s k at) ∙ by (parse (drop k s) at)
     where
       by : (p : Parsed) → drive_by u l s (k + at) number (move k p) ≡ moved k (drive_by u l (drop k s) at number p)
-      by Parsed.End = refl
-      by Parsed.Refused = refl
-      by (Parsed.Record r next) = ap (answered u l (k + next) number) (asked-rest r) ∙ answered-moved u l next number (asked (drop k s) r)
+      by (Ok None) = refl
+      by (Err n) = refl
+      by (Ok (Some f)) = ap (answered u l (k + f.next) number) (asked-rest f.what) ∙ answered-moved u l f.next number (asked (drop k s) f.what)

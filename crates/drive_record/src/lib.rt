@@ -5,7 +5,9 @@ ghost use Rattle.contract.specs.Entries.{SoundMemory};
 ghost use Rattle.drive_answer.specs.Drove.{DrivesRecord};
 
 use drive_answer::answered::Driven;
-use drive_reader::Parsed;
+use drive_lines::answers::write_refused;
+use drive_reader::{Found, NoRecord};
+use drive_text::Writer;
 use queue::ReadyQueue;
 
 // The record at `from` and its line, which is written at `at`. `number` is the record's. The store is sound, as it is in a session: it is
@@ -26,22 +28,23 @@ pub fn drive_record(
     ensures { DrivesRecord tasks objects places calls queue src.now from out at number result }
 {
     match drive_reader::parse_record(src, from) {
-        Parsed::End => Driven {
+        Ok(None) => Driven {
             queue,
             at,
             next: from,
             going: false,
         },
-        Parsed::Refused => {
-            let end = drive_lines::answers::write_refused(out, at, number, 11);
+        Err(NoRecord) => {
+            let mut line = Writer::new(out, at);
+            write_refused(&mut line, number, 11);
             Driven {
                 queue,
-                at: end,
+                at: line.at,
                 next: from,
                 going: false,
             }
         }
-        Parsed::Record { what, next } => drive_answer::answered::answered(
+        Ok(Some(Found { what, next })) => drive_answer::answered::answered(
             tasks, objects, places, calls, queue, src, what, next, out, at, number,
         ),
     }

@@ -2,13 +2,12 @@
 -- that it reads, by its types; here it is said of the definition.)
 use Rattle.std.specs.Prelude.{List, eqb, leb, ltb, length}
 use Rattle.std.proofs.Common.{arith}
-use Rattle.std.proofs.Math.Option.{Option, none, some}
 use Prim.Native.Nat.{ℕ, zero, suc, ◌+◌, ◌-◌, ◌<◌}
 use Rattle.asyncio.specs.Limits.{u32_limit}
 use Rattle.asyncio.specs.RangeLaws.{pick_has}
 use Rattle.asyncio.specs.declared.Value.{Value}
 use Rattle.asyncio.specs.Options.{OptionValue}
-use Rattle.std.specs.Prelude.{None, Some}
+use Rattle.std.specs.Prelude.{Option, None, Some}
 use Rattle.machine.specs.Store.{Store, fresh}
 use Rattle.machine.specs.Sessions.{AllSentInRange}
 use Rattle.endian.specs.Endian.{le1, le2, le4}
@@ -25,16 +24,16 @@ Bytes src = (i : ℕ) → le1 src i < 256
 
 -- those of the record, if there is one
 abbrev FitsIf : Option Record → Type 0
-FitsIf none = Unit {0}
-FitsIf (some r) = RecordFits r
+FitsIf None = Unit {0}
+FitsIf (Some r) = RecordFits r
 
 value-fits : (f : Value → Record) (x : OptionValue) → ((v : Value) → RecordFits (f v)) → FitsIf (with_value f x)
 value-fits f None h = tt
 value-fits f (Some v) h = h v
 
 found-fits : (o : Option Record) (next : ℕ) → FitsIf o → ParsedFits (found o next)
-found-fits none next h = tt
-found-fits (some r) next h = h
+found-fits None next h = tt
+found-fits (Some r) next h = h
 
 module _ (src : List ℕ) (b : Bytes src) where
   four-fit : (at : ℕ) → le4 src at < u32_limit

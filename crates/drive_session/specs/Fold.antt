@@ -1,11 +1,12 @@
 -- Document 01's driver over a whole input, with all that it leaves: the session that it is begins, and takes the records one after the other.
+use Rattle.std.specs.Prelude.{None, Some, Ok, Err}
 use Rattle.std.specs.Prelude.{ℕ, zero, suc, ◌+◌, ◌-◌, List, [], ◌∷◌, ◌++◌, ltb, length}
 use Rattle.asyncio.specs.States.{pick}
 use Rattle.machine.specs.Store.{Store, fresh}
 use Rattle.machine.specs.Machine.{Event}
 use Rattle.machine.specs.Lent.{lengths_right}
 use Rattle.machine.specs.Sessions.{Sent}
-use Rattle.drive_reader.specs.declared.Parsed.{Parsed}
+use Rattle.drive_reader.specs.Parsed.{Parsed}
 use Rattle.drive_reader.specs.Format.{parse}
 use Rattle.drive_reader.specs.RecordNumbers.{parse_refusal}
 use Rattle.drive_answer.specs.Driver.{Asked, asked, Drives, drive_one}
@@ -27,9 +28,9 @@ event_in (Asked.read e) = e
 
 -- the event of the record that was read, if one was, with the call list as the last wait left it
 unfoldable pub sent_of : List ℕ → List ℕ → Parsed → List Sent
-sent_of l src Parsed.End = []
-sent_of l src Parsed.Refused = []
-sent_of l src (Parsed.Record r next) = record { event = event_in (asked src r); list = l } ∷ []
+sent_of l src (Ok None) = []
+sent_of l src (Err n) = []
+sent_of l src (Ok (Some f)) = record { event = event_in (asked src f.what); list = l } ∷ []
 
 -- the driver stops here
 unfoldable pub stopped : ℕ → Drives → DrivesAll

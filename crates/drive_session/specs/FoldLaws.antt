@@ -1,4 +1,5 @@
 -- The driver over a whole input: one record and those behind it; its text is `drive`'s; what it stops with.
+use Rattle.std.specs.Prelude.{None, Some, Ok, Err}
 use Rattle.std.specs.Prelude.{◌≡◌, Bool, List, [], ◌++◌, ℕ, zero, suc, ◌+◌, ◌-◌, ◌<◌, length, replicate}
 use Rattle.std.proofs.Math.Path.{refl}
 use Rattle.std.proofs.Common.{sym, ap, ◌∙◌, append-nil, arith, le-ltb, ltb-false}
@@ -8,7 +9,7 @@ use Rattle.asyncio.specs.Limits.{object_limit}
 use Rattle.asyncio.specs.States.{pick}
 use Rattle.machine.specs.Store.{Store, fresh}
 use Rattle.machine.specs.Sessions.{Sent}
-use Rattle.drive_reader.specs.declared.Parsed.{Parsed}
+use Rattle.drive_reader.specs.Parsed.{Parsed, no_record}
 use Rattle.drive_reader.specs.Format.{parse}
 use Rattle.drive_reader.specs.ParseLaws.{parse_end, end_behind}
 use Rattle.drive_reader.specs.RecordNumbers.{parse_refusal}
@@ -19,9 +20,9 @@ use Rattle.drive_session.specs.Fold.{DrivesAll, sent_of, stopped, behind, drive_
 
 -- the end of the input
 ends : Parsed → Bool
-ends Parsed.End = true
-ends Parsed.Refused = false
-ends (Parsed.Record r next) = false
+ends (Ok None) = true
+ends (Err n) = false
+ends (Ok (Some f)) = false
 
 -- ---- one record, and those behind it
 
@@ -79,13 +80,13 @@ module _ (s : Store) (l src : List ℕ) (from number : ℕ) where
   stops_with g = by (parse src from) refl g
     where
       by : (p : Parsed) → parse src from ≡ p → (drive_by s l src from number p).going ≡ false → stop_refusal (length src) (drive_by s l src from number p).next ≡ parse_refusal p
-      by Parsed.End e h = unfold parse_refusal in (rw (le-ltb from (length src) (end_behind src from e)))
-      by Parsed.Refused e h = test (ltb from (length src)) refl
+      by (Ok None) e h = unfold parse_refusal in (rw (le-ltb from (length src) (end_behind src from e)))
+      by (Err n) e h = test (ltb from (length src)) refl
         where
-          test : (b : Bool) → ltb from (length src) ≡ b → stop_refusal (length src) from ≡ parse_refusal Parsed.Refused
+          test : (b : Bool) → ltb from (length src) ≡ b → stop_refusal (length src) from ≡ parse_refusal no_record
           test true t = unfold parse_refusal in (rw t)
           test false t = absurd (true≢false (ap ends (sym (parse_end src from (ltb-false from (length src) t)) ∙ e)))
-      by (Parsed.Record r next) e h = absurd (goes (asked src r) h)
+      by (Ok (Some f)) e h = absurd (goes (asked src f.what) h)
         where
           goes : (a : Asked) → (answered s l next number a).going ≡ false → ⊥
           goes (Asked.event x) d = true≢false d

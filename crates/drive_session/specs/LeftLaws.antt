@@ -1,4 +1,5 @@
 -- The records of a session, as the code takes them: what is left to do from a record on gives what the whole does.
+use Rattle.std.specs.Prelude.{None, Some, Ok, Err}
 use Rattle.std.specs.Prelude.{◌≡◌, refl, Bool, true, not, ◌&&◌, ℕ, suc, ◌+◌, ◌-◌, ◌*◌, ◌≤◌, leb}
 use Rattle.std.proofs.Math.Path.{sym, ap, subst}
 use Rattle.std.proofs.Common.{◌∙◌, add-one, arith, length-append}
@@ -21,7 +22,7 @@ use Rattle.step_checks.specs.Lent.{are_slices}
 use Rattle.drive_text.specs.Out.{Out, out_of, Wrote}
 use Rattle.drive_text.specs.OutLaws.{wrote_none, then, at_most}
 use Rattle.drive_reader.specs.declared.Record.{Record}
-use Rattle.drive_reader.specs.declared.Parsed.{Parsed}
+use Rattle.drive_reader.specs.Parsed.{Parsed}
 use Rattle.drive_reader.specs.Format.{parse}
 use Rattle.drive_reader.specs.RecordNumbers.{parse_refusal}
 use Rattle.drive_lines.specs.Lines.{line_limit}
@@ -56,9 +57,9 @@ event_in_range src Record.Eager i = tt
 
 pub sent_in_range : (l src : List ℕ) (p : Parsed) → ParsedFits p → AllSentInRange (sent_of l src p)
 unfolding sent_of AllSentInRange
-sent_in_range l src Parsed.End i = tt
-sent_in_range l src Parsed.Refused i = tt
-sent_in_range l src (Parsed.Record r next) i = (event_in_range src r i, tt)
+sent_in_range l src (Ok None) i = tt
+sent_in_range l src (Err n) i = tt
+sent_in_range l src (Ok (Some f)) i = (event_in_range src f.what i, tt)
 
 pub append_in_range : (es fs : List Sent) → AllSentInRange es → AllSentInRange fs → AllSentInRange (es ++ fs)
 unfolding AllSentInRange
@@ -71,9 +72,9 @@ unfolding drive_one drive_by refused_11 sent_of
 one_sent s l src from number g = by (parse src from) g
   where
     by : (p : Parsed) → (drive_by s l src from number p).going ≡ true → length (sent_of l src p) ≡ 1
-    by Parsed.End h = cc
-    by Parsed.Refused h = cc
-    by (Parsed.Record r next) h = refl
+    by (Ok None) h = cc
+    by (Err n) h = cc
+    by (Ok (Some f)) h = refl
 
 -- ---- lines and events one after the other
 

@@ -1,5 +1,6 @@
 -- The driver over a whole input is a session of the machine: the events of the records, sent from the beginning on. Its text is the lines of the answers in
 -- the session's history, and of the 11 that ended it, if one did. The stores differ in the log alone: the driver leaves it at a read, a session empties it.
+use Rattle.std.specs.Prelude.{None, Some, Ok, Err}
 use Rattle.std.specs.Prelude.{◌≡◌, Bool, List, [], ◌∷◌, ◌++◌, ℕ, zero, suc, ◌+◌, ◌-◌, ◌<◌, eqb, length}
 use Rattle.std.proofs.Math.Path.{refl, ap, subst}
 use Rattle.std.proofs.Common.{sym, ◌∙◌, append_assoc, append-nil, arith, length-append}
@@ -14,7 +15,7 @@ use Rattle.machine_laws.specs.MachineLaws.{show-step, eager-step}
 use Rattle.machine_laws.specs.SoundLaws.{step-forget}
 use Rattle.machine_sessions.specs.Queue.Following.{any_event, any_read}
 use Rattle.drive_reader.specs.declared.Record.{Record}
-use Rattle.drive_reader.specs.declared.Parsed.{Parsed}
+use Rattle.drive_reader.specs.Parsed.{Parsed, at_end, no_record, a_record}
 use Rattle.drive_reader.specs.Format.{parse}
 use Rattle.drive_reader.specs.ParseLaws.{parse_inside}
 use Rattle.drive_reader.specs.RecordNumbers.{parse_refusal}
@@ -157,11 +158,11 @@ output_more h x number e =
 -- ---- the ways of the driver
 
 module _ (s : Store) (l src : List ℕ) (from number : ℕ) where
-  rest_end : parse src from ≡ Parsed.End → drive_all_rest s l src from number ≡ record { refusal = 0; store = s; list = l; text = []; next = from; sent = [] }
+  rest_end : parse src from ≡ at_end → drive_all_rest s l src from number ≡ record { refusal = 0; store = s; list = l; text = []; next = from; sent = [] }
   unfolding drive_one drive_by stopped parse_refusal
   rest_end e = all_stops s l src from number (ap (λ (p : Parsed). (drive_by s l src from number p).going) e) ∙ ap (λ (p : Parsed). stopped (parse_refusal p) (drive_by s l src from number p)) e
 
-  rest-refused : parse src from ≡ Parsed.Refused
+  rest-refused : parse src from ≡ no_record
       → drive_all_rest s l src from number ≡ record { refusal = 11; store = s; list = l; text = line number (Answer.refused 11); next = from; sent = [] }
   unfolding drive_one drive_by stopped parse_refusal refused_11
   rest-refused e = all_stops s l src from number (ap (λ (p : Parsed). (drive_by s l src from number p).going) e) ∙ ap (λ (p : Parsed). stopped (parse_refusal p) (drive_by s l src from number p)) e
@@ -171,7 +172,7 @@ module _ (s : Store) (l src : List ℕ) (from number : ℕ) where
   answered-goes next (Asked.event e) = refl
   answered-goes next (Asked.read e) = refl
 
-  rest-record : {r : Record} {next : ℕ} → parse src from ≡ Parsed.Record r next
+  rest-record : {r : Record} {next : ℕ} → parse src from ≡ a_record r next
       → (let x : Drives = answered s l next number (asked src r) in
       drive_all_rest s l src from number ≡ behind x.text (sends l (asked src r) ∷ []) (drive_all_rest x.store x.list src x.next (number + 1)))
   unfolding drive_one drive_by sent_of
@@ -214,19 +215,19 @@ drive_follows (suc k) s l src from number y b q n = by (parse src from) refl (λ
         → ((s' : Store) (l' : List ℕ) (from' : ℕ) (y' : Session) → length src - from' < k → forget s' ≡ forget y'.store → number + 1 ≡ suc (length y'.history)
         → Follows y' (drive_all_rest s' l' src from' (number + 1)))
         → Follows y (drive_all_rest s l src from number)
-    by Parsed.End e go = subst (Follows y) (sym (rest_end s l src from number e)) (record { store_is = unfold send_all in q; text_is = unfold send_all last_line in refl })
-    by Parsed.Refused e go = subst (Follows y) (sym (rest-refused s l src from number e)) (record {
+    by (Ok None) e go = subst (Follows y) (sym (rest_end s l src from number e)) (record { store_is = unfold send_all in q; text_is = unfold send_all last_line in refl })
+    by (Err m) e go = subst (Follows y) (sym (rest-refused s l src from number e)) (record {
       store_is = unfold send_all in q;
       text_is = unfold send_all last_line in (ap (λ (m : ℕ). output 1 (answers_in y.history) ++ line m (Answer.refused 11)) n);
     })
-    by (Parsed.Record r next) e go =
-        let a : Asked = asked src r in
-        let h : Sends s l next number y.store a = asked-sends s y.store l next number a (rightly_asked src r) q in
+    by (Ok (Some f)) e go =
+        let a : Asked = asked src f.what in
+        let h : Sends s l f.next number y.store a = asked-sends s y.store l f.next number a (rightly_asked src f.what) q in
         let i = parse_inside src from e in
-        let x : Drives = answered s l next number a in
-        let m : x.next ≡ next = answered-next s l next number a in
+        let x : Drives = answered s l f.next number a in
+        let m : x.next ≡ f.next = answered-next s l f.next number a in
         subst (Follows y) (sym (rest-record s l src from number e))
-        (follows_record s l next number y a _ n h
+        (follows_record s l f.next number y a _ n h
         (go x.store x.list x.next (send y (sends l a)) (omega (arith, m, i.behind, i.within)) (unfold send in h.left)
         (unfold send in (omega (arith, n)))))
 

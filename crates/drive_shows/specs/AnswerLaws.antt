@@ -1,5 +1,5 @@
 -- The line that a caller of the library writes of what it was answered is the line of the machine's answer, and how long it can be.
-use Rattle.std.specs.Prelude.{◌≡◌, refl, Bool, true, false, List, [], ℕ, ◌+◌, ◌*◌, ◌≤◌, eqb, length, take}
+use Rattle.std.specs.Prelude.{◌≡◌, refl, List, [], Ok, Err, ℕ, ◌+◌, ◌*◌, ◌≤◌, eqb, length, take}
 use Rattle.std.proofs.Common.{sym, ap, ◌∙◌, arith, length-take}
 use Rattle.asyncio.specs.Limits.{object_limit, item_limit}
 use Rattle.asyncio.specs.Ranges.{ObjectFits}
@@ -17,10 +17,9 @@ use Rattle.exec_switch.specs.Answer.{answer_with, answer_of}
 use Rattle.exec_switch.specs.declared.control.Control.{Control}
 use Rattle.exec_switch.specs.declared.answer.Answer.{Answer}
 use Rattle.step_checks.specs.Lent.{lent_of}
-use Rattle.step_read.specs.Reads.{shown_of, show_answer}
+use Rattle.step_read.specs.Reads.{Reading, shown_of, show_answer}
 use Rattle.step_read.specs.ReadLaws.{shows-places}
 use Rattle.step_read.specs.declared.Shown.{Shown}
-use Rattle.step_read.specs.declared.Reading.{Reading}
 use Rattle.drive_text.specs.Out.{Out, Wrote}
 use Rattle.drive_text.specs.OutLaws.{at_most}
 use Rattle.drive_shows.specs.Shows.{shown_count, reading_count}
@@ -146,8 +145,8 @@ shows-count ps Shown.Nothing = refl
 
 reads_count : (ps : List ℕ) (r : Reading) → answer-places (show_answer ps r) ≡ reading_count r
 unfolding answer-places reading_count
-reads_count ps (Reading.Shows x) = shows-count ps x
-reads_count ps (Reading.Refused n) = refl
+reads_count ps (Ok x) = shows-count ps x
+reads_count ps (Err r) = refl
 
 -- a read shows at most 32 places
 pub reading_few : (ps : List ℕ) (u : Store) (o : ℕ) (r : Reading) → show_answer ps r ≡ (lent_read u (Event.show o)).answer → reading_count r ≤ item_limit

@@ -4,145 +4,128 @@ ghost use Rattle.rows.specs.Tables.{place_at};
 ghost use Rattle.machine.specs.Machine as machine;
 ghost use Rattle.machine.specs.Machine.{slot_value};
 ghost use Rattle.step_read.specs.Reads.{places_from, shown_of};
-ghost use Rattle.drive_text.specs.Out.{Puts};
+ghost use Rattle.drive_text.specs.Writing.{Puts};
 ghost use Rattle.drive_text.specs.Text.{word};
 ghost use Rattle.drive_lines.specs.Lines.{error_text, place_text, places_text, shown_text, line};
 ghost use Rattle.drive_shows.specs.Shows.{shown_count, PutsGather, PutsReading};
 
 use asyncio::{CoroutineState, Error, Value};
 use drive_lines::answers::{put_error, put_value, write_refused};
-use drive_text::{put_byte, put_decimal, put_field, put_named, put_text};
+use drive_text::Writer;
+use exec_switch::answer::Refusal;
 use rows::total::result_at;
-use step_read::{Reading, Shown};
+use step_read::Shown;
 
 // A coroutine: its state and its function.
-fn put_coroutine(out: &mut [u8], at: usize, state: CoroutineState, function: u32) -> usize
-    ensures { Puts 41 out at result (shown_text (machine.Shown.a_coroutine state function)) }
+#[tactic(auto, unfolding(drive_lines::specs::Lines::state_text, drive_lines::specs::Lines::shown_text))]
+fn put_coroutine(out: &mut Writer, state: CoroutineState, function: u32)
+    ensures { Puts 41 out (shown_text (machine.Shown.a_coroutine state function)) }
 {
     match state {
-        CoroutineState::New => put_named(out, at, b" coroutine new", function as u64),
-        CoroutineState::Running => put_named(out, at, b" coroutine running", function as u64),
-        CoroutineState::Completed => put_named(out, at, b" coroutine completed", function as u64),
+        CoroutineState::New => out.put_named(b" coroutine new", function as u64),
+        CoroutineState::Running => out.put_named(b" coroutine running", function as u64),
+        CoroutineState::Completed => out.put_named(b" coroutine completed", function as u64),
     }
 }
 
 // A place that is not open: its result.
-fn put_result(out: &mut [u8], at: usize, x: Option<Value>) -> usize
-    ensures { Puts 27 out at result (place_text (slot_value false x)) }
+#[tactic(auto, unfolding(machine::specs::Machine::slot_value, drive_lines::specs::Lines::place_text))]
+fn put_result(out: &mut Writer, result_value: Option<Value>)
+    ensures { Puts 27 out (place_text (slot_value false result_value)) }
 {
-    match x {
-        None => put_text(out, at, b" open"),
-        Some(v) => put_value(out, at, v),
+    match result_value {
+        None => out.put_text(b" open"),
+        Some(v) => put_value(out, v),
     }
 }
 
 // Place `i` of a gather; `rest` is its open word without the bits below `i`.
-fn put_place(out: &mut [u8], at: usize, places: &[u64], first: u16, i: u16, rest: u32) -> usize
-    ensures { Puts 27 out at result (place_text (slot_value (not (eqb (rest % 2) 0)) (place_at places.now (first + i)).result)) }
+fn put_place(out: &mut Writer, places: &[u64], first: u16, i: u16, rest: u32)
+    ensures { Puts 27 out (place_text (slot_value (not (eqb (rest % 2) 0)) (place_at places.now (first + i)).result)) }
 {
     if rest % 2 == 0 {
-        return put_result(out, at, result_at(places, first, i));
+        return put_result(out, result_at(places, first, i));
     }
-    put_text(out, at, b" open")
+    out.put_text(b" open");
 }
 
 // The places of a gather; bit i of `mask` says that place i is open.
-fn put_places(out: &mut [u8], at: usize, places: &[u64], first: u16, count: u16, mask: u32) -> usize
-    ensures { Puts (27 * count) out at result (places_text (places_from places.now first mask 0 count)) }
+fn put_places(out: &mut Writer, places: &[u64], first: u16, count: u16, mask: u32)
+    ensures { Puts (27 * count) out (places_text (places_from places.now first mask 0 count)) }
 {
-    let mut p = at;
     let mut rest = mask;
-    let mut i: u16 = 0;
-    while i < count {
-        p = put_place(out, p, places, first, i, rest);
-        rest = rest / 2;
-        i += 1;
+    for i in 0..count {
+        put_place(out, places, first, i, rest);
+        rest /= 2;
     }
-    p
 }
 
 // A gather with its places: sort and state, place count, each place.
-fn put_gather(
-    out: &mut [u8],
-    at: usize,
-    state: &[u8],
-    places: &[u64],
-    first: u16,
-    count: u16,
-    mask: u32,
-) -> usize
-    ensures { PutsGather out at result state.now places.now first count mask }
+fn put_gather(out: &mut Writer, state: &[u8], places: &[u64], first: u16, count: u16, mask: u32)
+    ensures { PutsGather out state.now places.now first count mask }
 {
-    let p = put_text(out, at, state);
-    let q = put_field(out, p, count as u64);
-    put_places(out, q, places, first, count, mask)
+    out.put_text(state);
+    out.put_field(count as u64);
+    put_places(out, places, first, count, mask);
 }
 
-fn put_resolved(out: &mut [u8], at: usize, v: Value) -> usize
-    ensures { Puts 45 out at result (shown_text (machine.Shown.an_external_resolved v)) }
+// What failed, and its error.
+fn put_failure(out: &mut Writer, sort: &[u8], e: Error)
+    ensures { Puts (length sort.now + 35) out (sort.now ++ (word "failed" ++ error_text e)) }
 {
-    let p = put_text(out, at, b" external resolved");
-    put_value(out, p, v)
-}
-
-fn put_failure(out: &mut [u8], at: usize, sort: &[u8], e: Error) -> usize
-    ensures { Puts (length sort.now + 35) out at result (sort.now ++ (word "failed" ++ error_text e)) }
-{
-    let p = put_text(out, at, sort);
-    let q = put_text(out, p, b" failed");
-    put_error(out, q, e)
+    out.put_text(sort);
+    out.put_text(b" failed");
+    put_error(out, e);
 }
 
 // Sort, state and what document 01 lists.
-fn put_shown(out: &mut [u8], at: usize, shown: Shown, places: &[u64]) -> usize
-    ensures { Puts (48 + 27 * shown_count shown) out at result (shown_text (shown_of places.now shown)) }
+#[tactic(auto, unfolding(drive_lines::specs::Lines::shown_text, crate::specs::Shows::shown_count))]
+fn put_shown(out: &mut Writer, shown: Shown, places: &[u64])
+    ensures { Puts (48 + 27 * shown_count shown) out (shown_text (shown_of places.now shown)) }
 {
     match shown {
-        Shown::Coroutine { state, function } => put_coroutine(out, at, state, function),
-        Shown::ExternalPending => put_text(out, at, b" external pending"),
-        Shown::ExternalResolved(v) => put_resolved(out, at, v),
-        Shown::ExternalFailed(e) => put_failure(out, at, b" external", e),
-        Shown::GatherPending => put_text(out, at, b" gather pending"),
+        Shown::Coroutine { state, function } => put_coroutine(out, state, function),
+        Shown::ExternalPending => out.put_text(b" external pending"),
+        Shown::ExternalResolved(v) => {
+            out.put_text(b" external resolved");
+            put_value(out, v);
+        }
+        Shown::ExternalFailed(e) => put_failure(out, b" external", e),
+        Shown::GatherPending => out.put_text(b" gather pending"),
         Shown::GatherAwaited {
             first,
             count,
-            open_places: mask,
-        } => put_gather(out, at, b" gather awaited", places, first, count, mask),
+            open_places,
+        } => put_gather(out, b" gather awaited", places, first, count, open_places),
         Shown::GatherCompleted { first, count } => put_gather(
             out,
-            at,
             b" gather completed",
             places,
             first,
             count,
             0,
         ),
-        Shown::GatherFailed(e) => put_failure(out, at, b" gather", e),
-        Shown::Nothing => put_text(out, at, b" nothing"),
+        Shown::GatherFailed(e) => put_failure(out, b" gather", e),
+        Shown::Nothing => out.put_text(b" nothing"),
     }
 }
 
-fn write_shown(out: &mut [u8], at: usize, number: u64, shown: Shown, places: &[u64]) -> usize
-    ensures { Puts (75 + 27 * shown_count shown) out at result (line number (machine.Answer.shows (shown_of places.now shown))) }
+fn write_shown(out: &mut Writer, number: u64, shown: Shown, places: &[u64])
+    ensures { Puts (75 + 27 * shown_count shown) out (line number (machine.Answer.shows (shown_of places.now shown))) }
 {
-    let p = put_decimal(out, at, number);
-    let q = put_text(out, p, b" shows");
-    let s = put_shown(out, q, shown, places);
-    put_byte(out, s, 10)
+    out.put_decimal(number);
+    out.put_text(b" shows");
+    put_shown(out, shown, places);
+    out.put_byte(b'\n');
 }
 
 // The line of record `number`, a read of an object. `places` is the store's.
-pub fn write_reading(
-    out: &mut [u8],
-    at: usize,
-    number: u64,
-    reading: Reading,
-    places: &[u64],
-) -> usize
-    ensures { PutsReading out at result number places.now reading }
+#[tactic(auto, unfolding(crate::specs::Shows::reading_count))]
+pub fn write_reading(out: &mut Writer, number: u64, reading: Result<Shown, Refusal>, places: &[u64])
+    ensures { PutsReading out number places.now reading }
 {
     match reading {
-        Reading::Shows(shown) => write_shown(out, at, number, shown, places),
-        Reading::Refused(n) => write_refused(out, at, number, n),
+        Ok(shown) => write_shown(out, number, shown, places),
+        Err(why) => write_refused(out, number, why.number()),
     }
 }

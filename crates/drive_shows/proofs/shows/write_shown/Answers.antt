@@ -1,7 +1,7 @@
 use Rattle.std.proofs.Common.{arith}
 use Rattle.machine.specs.Machine as machine
 use Rattle.step_read.specs.Reads.{shown_of}
-use Rattle.drive_text.specs.OutLaws.{then, at_most}
+use Rattle.drive_text.specs.WritingLaws.{then_puts, puts_by_three, puts_at_most}
 use Rattle.drive_lines.specs.Lines.{answer_text}
 use Rattle.drive_lines.specs.LineLaws.{line_wrote}
 use Rattle.drive_shows.proofs.shows.write_shown.Goals as goal
@@ -9,5 +9,5 @@ use Rattle.drive_shows.proofs.shows.write_shown.Goals as goal
 pub returns : goal.returns
 unfolding answer_text
 returns c =
-    at_most (omega arith)
-    (line_wrote _ (machine.Answer.shows (shown_of c.args.places.now c.args.shown)) c.put_decimal-p.ensures (then c.put_text-q.ensures c.put_shown-s.ensures) c.put_byte.ensures)
+    puts_at_most (omega arith)
+    (puts_by_three (line_wrote _ (machine.Answer.shows (shown_of c.args.places.now c.args.shown))) c.put_decimal.ensures (then_puts c.put_text.ensures c.put_shown.ensures) c.put_byte.ensures)
