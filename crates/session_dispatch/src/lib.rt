@@ -33,7 +33,7 @@ pub fn dispatch(
         };
     }
     if !is_sound(
-        queue,
+        &queue,
         tasks.as_array().unwrap(),
         objects.as_array().unwrap(),
         places.as_array().unwrap(),
