@@ -1,5 +1,5 @@
 // Soundness: clauses 1 to 4.
-// What each row says by itself. Each clause is a loop that returns false at the first row that fails.
+// What each row says by itself. Each clause asks a test of every row in use, and stops at the first that fails.
 #![tactic(auto)]
 
 pub mod numbers; // clauses 1 and 2

@@ -40,7 +40,7 @@ fn others_differ(objects: &Objects, c: CallId, n: u16) -> bool
     (0..n).all(|p| other_call(objects, c, HeapId(p)))
 }
 
-// Those below `free` are the calls so far: one from there on is new, and only one that is not is looked for among those before it.
+// The pending calls so far are all below `free`. A call from there on is new, and only another one is looked for among those before it.
 fn calls_new(objects: &Objects, made: u16) -> bool
     requires { made ≤ object_limit }
     ensures { result ≡ all_below made (call_new (object_in objects)) }
