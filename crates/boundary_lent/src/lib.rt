@@ -19,7 +19,8 @@ fn give_back(answered: Answered, ids: &mut [u16; TASKS], len: &mut usize) -> Num
     ensures { (ids.new ≡ answered.queue.ids) × (len.new ≡ answered.queue.len)
         × ((cs : List ℕ) → answered.calls ≡ length cs → result ≡ numbers_as (answer_with cs answered.answer)) }
 {
-    *ids = answered.queue.ids;
+    let left = answered.queue.ids;
+    *ids = left;
     *len = answered.queue.len;
     numbers_of(answered.answer, answered.calls as u64)
 }
@@ -78,7 +79,8 @@ pub fn begin(
     ensures { BoundaryBegin tasks objects places ids len }
 {
     let begun = session_begin::begin(tasks, objects, places, ReadyQueue::new());
-    *ids = begun.queue.ids;
+    let left = begun.queue.ids;
+    *ids = left;
     *len = begun.queue.len;
 }
 

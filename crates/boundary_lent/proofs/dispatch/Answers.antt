@@ -7,5 +7,5 @@ use Rattle.boundary_lent.proofs.dispatch.Goals as goal
 pub returns : goal.returns
 returns c =
     let g = c.give_back.ensures in
-    rw (g.0, g.1.0)
-    (leaves c.args.tasks.now c.args.objects.now c.args.places.now c.args.calls.now (queue_of c.args.ids.now c.args.len.now) (event_of c.args.items.now c.args.results.now c.args.event) c.dispatch-answered.result.answer (c.dispatch-answered.ensures []) g.1.1)
+    rw (g.0, g.1)
+    (leaves c.args.tasks.now c.args.objects.now c.args.places.now c.args.calls.now (queue_of c.args.ids.now c.args.len.now) (event_of c.args.items.now c.args.results.now c.args.event) c.dispatch-answered.result.answer (c.dispatch-answered.ensures []) g.2)

@@ -11,5 +11,5 @@ step-answered-requires c = (right_lengths _ _ _ _ _ (search rules) (search rules
 pub returns : goal.returns
 returns c =
     let g = c.give_back.ensures in
-    rw (g.0, g.1.0)
-    (leaves c.args.tasks.now c.args.objects.now c.args.places.now c.args.calls.now (queue_of c.args.ids.now c.args.len.now) (event_of c.args.items.now c.args.results.now c.args.event) c.step-answered.result.answer (c.step-answered.ensures []) g.1.1)
+    rw (g.0, g.1)
+    (leaves c.args.tasks.now c.args.objects.now c.args.places.now c.args.calls.now (queue_of c.args.ids.now c.args.len.now) (event_of c.args.items.now c.args.results.now c.args.event) c.step-answered.result.answer (c.step-answered.ensures []) g.2)
