@@ -21,44 +21,23 @@ pub fn header_same(objects: &Objects) -> bool
     header_words(to_header(row)) == row
 }
 
-fn task_same(tasks: &Tasks, t: usize) -> bool
-    requires { t < task_limit }
-    ensures { result ≡ task_canonical tasks.now t }
-{
-    is_task(task_row(tasks, t))
-}
-
-fn object_same(objects: &Objects, o: usize) -> bool
-    requires { o < object_limit }
-    ensures { result ≡ object_canonical objects.now o }
-{
-    is_object(object_row(objects, o))
-}
-
-fn place_same(places: &Places, p: usize) -> bool
-    requires { p < place_limit }
-    ensures { result ≡ place_canonical places.now p }
-{
-    is_place(place_row(places, p))
-}
-
 pub fn tasks_same(tasks: &Tasks, n: usize) -> bool
     requires { n ≤ task_limit }
     ensures { result ≡ all_below n (λ t. task_canonical tasks.now t) }
 {
-    (0..n).all(|t| task_same(tasks, t))
+    (0..n).all(|t| is_task(task_row(tasks, t)))
 }
 
 pub fn objects_same(objects: &Objects, n: usize) -> bool
     requires { n ≤ object_limit }
     ensures { result ≡ all_below n (λ o. object_canonical objects.now o) }
 {
-    (0..n).all(|o| object_same(objects, o))
+    (0..n).all(|o| is_object(object_row(objects, o)))
 }
 
 pub fn places_same(places: &Places, n: usize) -> bool
     requires { n ≤ place_limit }
     ensures { result ≡ all_below n (λ p. place_canonical places.now p) }
 {
-    (0..n).all(|p| place_same(places, p))
+    (0..n).all(|p| is_place(place_row(places, p)))
 }
