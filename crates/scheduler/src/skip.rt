@@ -20,8 +20,8 @@ fn any_of<const N: u16, F: Fn(HeapId) -> bool>(test: &F, o: u16) -> bool
     requires { (o + N ≤ object_limit) × CallableOnObjects (F.pre test.now) }
     ensures { (p : ℕ → Bool) → TestsObjects (F.post test.now) p → result ≡ any_of p o N }
 {
-    for i in o..o + N {
-        if test(HeapId::new(i)) {
+    for i in 0..N {
+        if test(HeapId::new(o + i)) {
             return true;
         }
     }
