@@ -34,6 +34,7 @@ fn skip<const N: u16, F: Fn(HeapId) -> bool>(made: u16, test: F) -> u16
     ensures { (p : ℕ → Bool) → TestsObjects (F.post test) p → BeginsAt p made result }
 {
     let mut o = 0;
+    // Kept: a `for` over the groups would have to count them, and `o` would be a product; that is no plainer.
     while N <= made - o {
         if any_of::<N, F>(&test, o) {
             return o;

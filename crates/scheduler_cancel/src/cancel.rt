@@ -52,6 +52,7 @@ fn blocked_on(state: TaskState) -> Option<HeapId>
 
 // ---- the walk: the table, marks for the gathers that were reached, and a stack of those still to be walked
 
+// Kept: table and stack hold words, since the laws of specs/CancelLaws and specs/TaskOfLaws (`cancel-turn`, `tasks_of_turn`) speak of words.
 #[derive(Drop)]
 struct Walk {
     table: [u64; OBJECTS],
