@@ -39,7 +39,10 @@ pub fn dispatch(
 ) -> Numbers
     ensures { BoundaryStep tasks objects places calls ids len (event_of items.now results.now event) result }
 {
-    let queue = ReadyQueue { ids: *ids, len: *len };
+    let queue = ReadyQueue {
+        ids: *ids,
+        len: *len,
+    };
     let answered = session_dispatch::dispatch(
         tasks, objects, places, calls, queue, event, items, results,
     );
@@ -61,10 +64,11 @@ pub fn step(
     requires { SoundLent tasks.old objects.old places.old ids.old len.old }
     ensures { BoundaryStep tasks objects places calls ids len (event_of items.now results.now event) result }
 {
-    let queue = ReadyQueue { ids: *ids, len: *len };
-    let answered = step_event::step(
-        tasks, objects, places, calls, queue, event, items, results,
-    );
+    let queue = ReadyQueue {
+        ids: *ids,
+        len: *len,
+    };
+    let answered = step_event::step(tasks, objects, places, calls, queue, event, items, results);
     give_back(answered, ids, len)
 }
 

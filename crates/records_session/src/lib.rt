@@ -70,9 +70,7 @@ fn dispatch_plain(
 ) -> Answered
     ensures { RecordsStep tasks objects places calls queue (event_of [] [] event) result }
 {
-    dispatch(
-        tasks, objects, places, calls, queue, event, &[], &[],
-    )
+    dispatch(tasks, objects, places, calls, queue, event, &[], &[])
 }
 
 // What object `o` is and has. Refused with 1, 2, 5 (not made); nothing is ever changed.

@@ -39,7 +39,11 @@ fn next_in(objects: &[u64]) -> u16
 pub fn rows_in_use(records: usize, objects: &[u64]) -> u16
     ensures { (result ≡ rows_in_use records objects.now) × (result ≤ records) × (result ≤ task_limit) }
 {
-    if records == TASKS { next_in(objects) } else { 0 }
+    if records == TASKS {
+        next_in(objects)
+    } else {
+        0
+    }
 }
 
 // How many records are to be saved after an answer: so many, or none where it is a refusal.

@@ -12,8 +12,7 @@ returns-then-records-ne-TASKS c = (step-refused c.args.records c.args.words.now 
 pub returns : goal.returns
 returns c =
     let a = c.dispatch-answered.result.answer in
-    let rows = c.rows_after-rows.ensures.0 ∙ ap (λ (n : ℕ). pick (refuses a) 0 n) c.next_in.ensures.0 in
-    (
+    let rows = c.rows_after-rows.ensures.0 ∙ ap (λ (n : ℕ). pick (refuses a) 0 n) c.next_in.ensures.0 in (
       step-done c.args.records c.args.words.now c.args.objects.now c.args.places.now c.args.queue c.args.calls.now (event_of c.args.items.now c.args.results.now c.args.event) a c.if-records-ne-TASKS.false (c.dispatch-answered.ensures []) rows,
       omega (arith, c.rows_after-rows.ensures.1, c.next_in.ensures.1, c.if-records-ne-TASKS.false),
       omega (arith, c.rows_after-rows.ensures.1, c.next_in.ensures.1),
