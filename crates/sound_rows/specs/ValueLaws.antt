@@ -1,9 +1,8 @@
 -- Clauses 3 and 4: the items of an object by its places, and the values of an object by its row's words.
-use Rattle.std.specs.Prelude.{◌≡◌, refl, Bool, true, List, ℕ, ◌+◌, eqb, ltb, get_or}
-use Rattle.std.proofs.Common.{◌∙◌, ne_eqb}
+use Rattle.std.specs.Prelude.{◌≡◌, refl, Bool, true, List, ℕ, ◌+◌, ltb, get_or}
+use Rattle.std.proofs.Common.{◌∙◌}
 use Rattle.asyncio.specs.Layout.{to_value, to_option, to_kind, row_object, to_object}
 use Rattle.asyncio.specs.Parts.{first_of, count_of}
-use Rattle.asyncio.specs.RangeLaws.{pick_has}
 use Rattle.asyncio.specs.declared.Kind.{Kind}
 use Rattle.asyncio.specs.declared.Object.{Object}
 use Rattle.asyncio.specs.Options.{OptionValue}
@@ -30,14 +29,21 @@ items-read os ps g e f h = h ∙ rw (e, f) (items-by ps g (object_at os g))
 
 -- ---- 4. values
 
--- an object whose kind's word is neither 4, a pending external, nor 5, a resolved one, holds none
-other-kind : (made : ℕ) (os : ℕ → Object) (w : List ℕ) (n : ℕ) → (n ≡ 4 → ⊥) → (n ≡ 5 → ⊥) → true ≡ object_values made os (row_object (to_kind n) w)
+-- an object that is neither a pending external nor a resolved one holds none
+other-kind : (made : ℕ) (os : ℕ → Object) (w : List ℕ) (k : Kind) → (k ≡ Kind.PendingExternal → ⊥) → (k ≡ Kind.ResolvedExternal → ⊥)
+    → true ≡ object_values made os (row_object k w)
 unfolding object_values
-other-kind made os w n p q =
-    let P : Kind → Type 0 = λ (k : Kind). true ≡ object_values made os (row_object k w) in
-    rw (ne_eqb n 4 p, ne_eqb n 5 q)
-    (pick_has P (eqb n 0) refl (pick_has P (eqb n 1) refl (pick_has P (eqb n 2) refl (pick_has P (eqb n 3) refl
-    (pick_has P (eqb n 6) refl (pick_has P (eqb n 7) refl (pick_has P (eqb n 8) refl (pick_has P (eqb n 9) refl refl))))))))
+other-kind made os w Kind.Unmade p q = refl
+other-kind made os w Kind.NewCoroutine p q = refl
+other-kind made os w Kind.RunningCoroutine p q = refl
+other-kind made os w Kind.CompletedCoroutine p q = refl
+other-kind made os w Kind.PendingExternal p q = absurd (p refl)
+other-kind made os w Kind.ResolvedExternal p q = absurd (q refl)
+other-kind made os w Kind.FailedExternal p q = refl
+other-kind made os w Kind.PendingGather p q = refl
+other-kind made os w Kind.AwaitedGather p q = refl
+other-kind made os w Kind.CompletedGather p q = refl
+other-kind made os w Kind.FailedGather p q = refl
 
 -- by the words of its row
 module _ (made : ℕ) (os : List ℕ) (o : ℕ) {row : List ℕ} (e : row ≡ row_from os (object_start o) 0 8) where
@@ -45,15 +51,16 @@ module _ (made : ℕ) (os : List ℕ) (o : ℕ) {row : List ℕ} (e : row ≡ ro
   unfolding object_at
   read-from = rw e
 
-  pub values-pending : {x : OptionValue} {r : Bool} → get_or row 0 0 ≡ 4 → x ≡ to_option (get_or row 5 0) (get_or row 6 0) → r ≡ option_known made (object_at os) x
+  pub values-pending : {x : OptionValue} {r : Bool} → to_kind (get_or row 0 0) ≡ Kind.PendingExternal → x ≡ to_option (get_or row 5 0) (get_or row 6 0) → r ≡ option_known made (object_at os) x
       → r ≡ object_values made (object_at os) (object_at os o)
   unfolding object_values
   values-pending k q h = rw (read-from, k) (h ∙ rw q)
 
-  pub values_resolved : {v : Value} {r : Bool} → get_or row 0 0 ≡ 5 → v ≡ to_value (get_or row 5 0) (get_or row 6 0) → r ≡ value_known made (object_at os) v
+  pub values_resolved : {v : Value} {r : Bool} → to_kind (get_or row 0 0) ≡ Kind.ResolvedExternal → v ≡ to_value (get_or row 5 0) (get_or row 6 0) → r ≡ value_known made (object_at os) v
       → r ≡ object_values made (object_at os) (object_at os o)
   unfolding object_values
   values_resolved k q h = rw (read-from, k) (h ∙ rw q)
 
-  pub values-none : (get_or row 0 0 ≡ 4 → ⊥) → (get_or row 0 0 ≡ 5 → ⊥) → true ≡ object_values made (object_at os) (object_at os o)
-  values-none p q = rw read-from (other-kind made (object_at os) row (get_or row 0 0) p q)
+  pub values-none : (to_kind (get_or row 0 0) ≡ Kind.PendingExternal → ⊥) → (to_kind (get_or row 0 0) ≡ Kind.ResolvedExternal → ⊥)
+      → true ≡ object_values made (object_at os) (object_at os o)
+  values-none p q = rw read-from (other-kind made (object_at os) row (to_kind (get_or row 0 0)) p q)

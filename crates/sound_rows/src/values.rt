@@ -6,8 +6,8 @@ ghost use Rattle.machine.specs.Tests.{all_below};
 ghost use Rattle.machine.specs.Sound.{items_below, items_lower, value_known, option_known, object_values, state_values, lists_completed};
 ghost use Rattle.asyncio.specs.Ranges.{HeaderFits};
 
-use asyncio::words::{to_option, to_value};
-use asyncio::{Header, HeapId, Objects, Places, TaskId, TaskState, Tasks, Value};
+use asyncio::words::{to_kind, to_option, to_value};
+use asyncio::{Header, HeapId, Kind, Objects, Places, TaskId, TaskState, Tasks, Value};
 use rows::parts::{count_at, first_at, item_at, kind_at, result_at, state_at};
 use rows::tables::object_row;
 
@@ -54,16 +54,16 @@ pub fn option_known(made: u16, objects: &Objects, x: Option<Value>) -> bool
     x.is_none_or(|v| value_known(made, objects, v))
 }
 
-// The value or stored result that object `o` holds, read from its own two words: a pending external (kind 4) holds the one, a resolved
-// external (kind 5) the other. Other objects hold none.
+// The value or stored result that object `o` holds, read from its own two words: a pending external holds the one, a resolved
+// external the other. Other objects hold none.
 fn object_values(made: u16, objects: &Objects, o: HeapId) -> bool
     requires { (made ≤ object_limit) × (o.0 < object_limit) }
     ensures { result ≡ object_values made (object_in objects) (object_in objects o.0) }
 {
     let row = object_row(objects, o.0 as usize);
-    match row[0] {
-        4 => option_known(made, objects, to_option(row[5], row[6])),
-        5 => value_known(made, objects, to_value(row[5], row[6])),
+    match to_kind(row[0]) {
+        Kind::PendingExternal => option_known(made, objects, to_option(row[5], row[6])),
+        Kind::ResolvedExternal => value_known(made, objects, to_value(row[5], row[6])),
         _ => true,
     }
 }

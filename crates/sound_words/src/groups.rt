@@ -1,4 +1,5 @@
 // Canonical groups of words: each is tested by its tag and the limit of its number, and a row by its groups, an object's by its kind.
+// Tags are numbers here, and no enums: these tests ask of the lent words whether they are the ones that a value is written in.
 ghost use Rattle.std.specs.Prelude.{◌≡◌, eqb};
 ghost use Rattle.asyncio.specs.Numbers.{to_u32};
 ghost use Rattle.sound_words.specs.PartLaws.{zeros, value_same, option_same, error_same, awaiter_same, stretch_same, state_same, object_row_same, task_row_same, place_row_same};
