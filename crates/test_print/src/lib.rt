@@ -1,4 +1,4 @@
-// What `test_stores` prints of a store: a line for each row and for the queue, the words of docs/LAYOUT.md, decimal, a space before each.
+// What `test_stores` prints of a store: a line for each row and for the queue, the words of docs/LAYOUT.md in decimal.
 #![tactic(auto)]
 
 ghost use Rattle.std.specs.Prelude.{◌*◌, ◌<◌, ◌≤◌};
