@@ -1,6 +1,5 @@
 use Rattle.std.proofs.Common.{◌∙◌, sym, ap, arith}
 use borrow.Author.Tests.{eq-eqb, ne_eqb}
-use Rattle.asyncio.specs.declared.Header.{Header}
 use Rattle.rows.specs.TableLaws.{header_read}
 use Rattle.rows.specs.Tables.{header_at}
 use Rattle.asyncio.specs.Limits.{objects_length}
