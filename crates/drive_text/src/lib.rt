@@ -16,6 +16,7 @@ impl<'a> Writer<'a> {
     // Writes into a buffer from a place on.
     pub fn new(out: &'a mut [u8], at: usize) -> Writer<'a>
         ensures same_buffer { result.out.ghost_name ≡ out.entry.ghost_name }
+        ensures bytes { result.out.now ≡ out.old }
         ensures place { result.at ≡ at }
     {
         Writer { out, at }

@@ -28,15 +28,15 @@ pub returns : goal.returns
 unfolding asked
 returns c =
     let a : AsksEvent c.args.src.now c.args.what c.match-what.asks = elim c.match-what.branch [
-      | in-Coroutine w ↦ rw (w.in-Coroutine.is, w.asks-is) (record { is_event = refl; inside = omega arith; fits = omega arith })
-      | in-Call w ↦ rw (w.in-Call.is, w.asks-is) (record { is_event = refl; inside = omega arith; fits = tt })
-      | in-Pending w ↦ rw (w.in-Pending.is, w.asks-is) (record { is_event = refl; inside = omega arith; fits = tt })
-      | in-Settled w ↦ rw (w.in-Settled.is, w.asks-is) (record { is_event = refl; inside = omega arith; fits = tt })
-      | in-Await w ↦ rw (w.in-Await.is, w.asks-is) (record { is_event = refl; inside = omega arith; fits = tt })
-      | in-Complete w ↦ rw (w.in-Complete.is, w.asks-is) (record { is_event = refl; inside = omega arith; fits = tt })
-      | in-Fail w ↦ rw (w.in-Fail.is, w.asks-is) (record { is_event = refl; inside = omega arith; fits = omega arith })
+      | in-Coroutine w ↦ rw (w.in-Coroutine.is, w.asks-is, w.event_alone-asks.ensures) (record { is_event = refl; inside = omega arith; fits = omega arith })
+      | in-Call w ↦ rw (w.in-Call.is, w.asks-is, w.event_alone-asks-in-Call.ensures) (record { is_event = refl; inside = omega arith; fits = tt })
+      | in-Pending w ↦ rw (w.in-Pending.is, w.asks-is, w.event_alone-asks-in-Pending.ensures) (record { is_event = refl; inside = omega arith; fits = tt })
+      | in-Settled w ↦ rw (w.in-Settled.is, w.asks-is, w.event_alone-asks-in-Settled.ensures) (record { is_event = refl; inside = omega arith; fits = tt })
+      | in-Await w ↦ rw (w.in-Await.is, w.asks-is, w.event_alone-asks-in-Await.ensures) (record { is_event = refl; inside = omega arith; fits = tt })
+      | in-Complete w ↦ rw (w.in-Complete.is, w.asks-is, w.event_alone-asks-in-Complete.ensures) (record { is_event = refl; inside = omega arith; fits = tt })
+      | in-Fail w ↦ rw (w.in-Fail.is, w.asks-is, w.event_alone-asks-in-Fail.ensures) (record { is_event = refl; inside = omega arith; fits = omega arith })
       | in-Results w ↦ let i = rw w.in-Results.is at c.requires.2 in rw (w.in-Results.is, w.asks-is) (record { is_event = refl; inside = i; fits = tt })
-      | in-Resume w ↦ rw (w.in-Resume.is, w.asks-is) (record { is_event = refl; inside = omega arith; fits = tt })
-      | in-Cancel w ↦ rw (w.in-Cancel.is, w.asks-is) (record { is_event = refl; inside = omega arith; fits = tt })
+      | in-Resume w ↦ rw (w.in-Resume.is, w.asks-is, w.event_alone-asks-in-Resume.ensures) (record { is_event = refl; inside = omega arith; fits = tt })
+      | in-Cancel w ↦ rw (w.in-Cancel.is, w.asks-is, w.event_alone-asks-in-Cancel.ensures) (record { is_event = refl; inside = omega arith; fits = tt })
     ] in
     (λ l. asks_drove c.args.src.now _ _ _ _ a (c.event_line.ensures l), a.fits)
