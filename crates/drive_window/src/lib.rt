@@ -5,7 +5,6 @@ ghost use Rattle.std.specs.Prelude.{◌≡◌, ◌-◌};
 ghost use Rattle.drive_window.specs.Window.{takes};
 ghost use Rattle.drive_window.specs.OneWindow.{SoundSession, DrivesOneWindow};
 
-use asyncio::words::least;
 use drive_answer::answered::Driven;
 use queue::ReadyQueue;
 
@@ -29,22 +28,17 @@ pub struct Window {
 fn bytes_left(all: usize, place: usize) -> usize
     ensures { result ≡ all - place }
 {
-    all - least(place, all)
+    all.saturating_sub(place)
 }
 
 // Is the record at `from` taken? It is whole, or the input has ended with the window, there is room for its line, and a number behind its own.
+#[tactic(auto, unfolding(crate::specs::Window::takes))]
 fn takes(ended: bool, bytes: usize, from: usize, size: usize, at: usize, number: u64) -> bool
     ensures { result ≡ takes ended bytes from size at number }
 {
-    if LINE_BYTES <= bytes_left(size, at) {
-        if number < u64::MAX {
-            if ended {
-                return true;
-            }
-            return RECORD_BYTES <= bytes_left(bytes, from);
-        }
-    }
-    false
+    LINE_BYTES <= bytes_left(size, at)
+        && number < u64::MAX
+        && (ended || RECORD_BYTES <= bytes_left(bytes, from))
 }
 
 // Takes the records of `src` from `from` on, the first with the number `number`, and writes their lines from the front of `out` on, until the next one is not
