@@ -8,17 +8,25 @@ use Rattle.records_tasks.specs.declared.TaskRecord.{TaskRecord}
 use Rattle.records_tasks.specs.TaskRecord.{no_record, record_of, task_of}
 use Rattle.records_tasks.specs.TaskRows.{loaded, rows_of, saved}
 
+pub loaded-none : (ts : List TaskRecord) (w : List ℕ) → loaded ts 0 w ≡ w
+unfolding loaded
+loaded-none ts w = refl
+
+pub loaded-one : (ts : List TaskRecord) (n : ℕ) (w : List ℕ) → loaded ts (n + 1) w ≡ task_put (loaded ts n w) n (task_of (get_or ts n no_record))
+unfolding loaded
+loaded-one ts n w = ap (λ (k : ℕ). loaded ts k w) (add-one n)
+
 pub rows_are : (ts : List TaskRecord) (n : ℕ) → loaded ts n (replicate tasks_length 0) ≡ rows_of ts n
 unfolding rows_of
 rows_are ts n = refl
 
 pub rows-none : (ts : List TaskRecord) → rows_of ts 0 ≡ replicate tasks_length 0
-unfolding rows_of loaded
-rows-none ts = refl
+unfolding rows_of
+rows-none ts = loaded-none ts (replicate tasks_length 0)
 
 pub rows-one : (ts : List TaskRecord) (n : ℕ) → rows_of ts (n + 1) ≡ task_put (rows_of ts n) n (task_of (get_or ts n no_record))
-unfolding rows_of loaded
-rows-one ts n = ap (λ (k : ℕ). loaded ts k (replicate tasks_length 0)) (add-one n)
+unfolding rows_of
+rows-one ts n = loaded-one ts n (replicate tasks_length 0)
 
 pub length-loaded : (ts : List TaskRecord) (n : ℕ) (w : List ℕ) → length (loaded ts n w) ≡ length w
 unfolding loaded
