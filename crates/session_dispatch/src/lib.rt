@@ -1,7 +1,7 @@
 // Any event on any memory: refusals 1 and 2, then `step_event::step`.
 #![tactic(auto)]
 
-ghost use Rattle.std.specs.Prelude.{[]};
+ghost use Rattle.std.specs.Prelude.{[], ◌∷◌};
 ghost use Rattle.step_event.specs.EventOf.{event_of};
 ghost use Rattle.step_event.specs.LentStep.{LentStep};
 
@@ -56,7 +56,10 @@ pub fn dispatch_plain(
     queue: ReadyQueue,
     event: Event,
 ) -> Answered
-    ensures { LentStep tasks objects places calls queue (event_of [] [] event) result }
+    ensures { LentStep tasks objects places calls queue (event_of (0 ∷ []) (0 ∷ []) event) result }
 {
-    dispatch(tasks, objects, places, calls, queue, event, &[], &[])
+    // Kept: one 0 of each, not empty slices: the clause says of a Gather, too, what it said before.
+    dispatch(
+        tasks, objects, places, calls, queue, event, &[0; 1], &[0; 1],
+    )
 }
