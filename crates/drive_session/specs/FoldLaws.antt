@@ -88,7 +88,7 @@ module _ (s : Store) (l src : List ℕ) (from number : ℕ) where
           test false t = absurd (true≢false (ap ends (sym (parse_end src from (ltb-false from (length src) t)) ∙ e)))
       by (Ok (Some f)) e h = absurd (goes (asked src f.what) h)
         where
-          goes : (a : Asked) → (answered s l next number a).going ≡ false → ⊥
+          goes : (a : Asked) → (answered s l f.next number a).going ≡ false → ⊥
           goes (Asked.event x) d = true≢false d
           goes (Asked.read x) d = true≢false d
 

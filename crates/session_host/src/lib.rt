@@ -24,7 +24,16 @@ pub fn results(
 ) -> Answered
     ensures { LentStep tasks objects places calls queue (machine.Event.results (results_in results.now)) result }
 {
-    dispatch(tasks, objects, places, calls, queue, Event::Results, &[], results)
+    dispatch(
+        tasks,
+        objects,
+        places,
+        calls,
+        queue,
+        Event::Results,
+        &[],
+        results,
+    )
 }
 
 // The host hands control back. Switched: the next ready task runs, or, with none ready, the wait again; Stalled: no call is pending. Refused with 3, 4.

@@ -94,5 +94,14 @@ pub fn gather(
 ) -> Answered
     ensures { LentStep tasks objects places calls queue (machine.Event.gather items.now) result }
 {
-    dispatch(tasks, objects, places, calls, queue, Event::Gather, items, &[])
+    dispatch(
+        tasks,
+        objects,
+        places,
+        calls,
+        queue,
+        Event::Gather,
+        items,
+        &[],
+    )
 }
