@@ -24,10 +24,8 @@ fn move_up(src: &mut [u8], from: usize, count: usize)
     requires { from + count ≤ length src.old }
     ensures { src.new ≡ paste src.old 0 (drop from src.old) count }
 {
-    let mut i: usize = 0;
-    while i < count {
+    for i in 0..count {
         src[i] = src[from + i];
-        i += 1;
     }
 }
 
@@ -52,10 +50,8 @@ fn ready(stdin: Stdin, src: &mut [u8], from: usize, filled: usize) -> Input
     requires filled_in_bounds { filled ≤ length src.old }
     ensures { Readied src.old src.new from filled result.from result.filled }
 {
-    if filled == src.len() {
-        if filled - from < RECORD_BYTES {
-            return refill(stdin, src, from, filled);
-        }
+    if filled == src.len() && filled - from < RECORD_BYTES {
+        return refill(stdin, src, from, filled);
     }
     Input { from, filled }
 }
@@ -89,10 +85,7 @@ fn run(stdin: Stdin, mut stdout: Stdout, src: &mut [u8], out: &mut [u8])
             out,
             number,
         );
-        if stdout.write_all(&out[..window.at]).is_err() {
-            return;
-        }
-        if !window.going {
+        if stdout.write_all(&out[..window.at]).is_err() || !window.going {
             return;
         }
         queue = window.queue;
