@@ -27,7 +27,12 @@ pub fn show(
         return Err(Refusal::WrongLength);
     }
     let rows: &Objects = objects.as_array().unwrap();
-    if !is_sound(&queue, tasks.as_array().unwrap(), rows, places.as_array().unwrap()) {
+    if !is_sound(
+        &queue,
+        tasks.as_array().unwrap(),
+        rows,
+        places.as_array().unwrap(),
+    ) {
         return Err(Refusal::NotSound);
     }
     step_read::show(rows, o)
@@ -41,7 +46,12 @@ pub fn eager(tasks: &[u64], objects: &[u64], places: &[u64], queue: ReadyQueue) 
         return Answer::Refused(Refusal::WrongLength);
     }
     let rows: &Objects = objects.as_array().unwrap();
-    if !is_sound(&queue, tasks.as_array().unwrap(), rows, places.as_array().unwrap()) {
+    if !is_sound(
+        &queue,
+        tasks.as_array().unwrap(),
+        rows,
+        places.as_array().unwrap(),
+    ) {
         return Answer::Refused(Refusal::NotSound);
     }
     step_read::eager(rows, &queue)

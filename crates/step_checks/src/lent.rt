@@ -28,10 +28,11 @@ fn is_wait(answer: Answer) -> bool
 {
     matches!(
         answer,
-        Answer::Switched(Control::Waits) | Answer::Awaited {
-            control: Control::Waits,
-            steps: _,
-        }
+        Answer::Switched(Control::Waits)
+            | Answer::Awaited {
+                control: Control::Waits,
+                steps: _,
+            }
     )
 }
 

@@ -10,7 +10,7 @@ ghost use Rattle.exec_switch.specs.Answer.{answer_or, Answers, AnswersKeepingPla
 ghost use Rattle.exec_futures.specs.Results.{results_in};
 ghost use Rattle.step_checks.specs.Checked.{checked};
 
-use asyncio::{Moment, Objects, Places, RESULTS, RESULT_BYTES, TaskId, Tasks};
+use asyncio::{Moment, Objects, Places, RESULT_BYTES, RESULTS, TaskId, Tasks};
 use exec_ends::resume_with_resolved_futures;
 use exec_futures::results::apply_future_results;
 use exec_switch::answer::{Answer, Refusal};
@@ -50,7 +50,11 @@ pub fn results(
 }
 
 // The host hands control back.
-pub fn resume(tasks: &mut Tasks, objects: &mut Objects, queue: &mut ReadyQueue) -> Result<Answer, Refusal>
+pub fn resume(
+    tasks: &mut Tasks,
+    objects: &mut Objects,
+    queue: &mut ReadyQueue,
+) -> Result<Answer, Refusal>
     ensures { AnswersKeepingPlaces tasks objects queue (λ s. checked s Event.resume) (answer_or result) }
 {
     waiting(objects)?;

@@ -8,7 +8,9 @@ ghost use Rattle.step_checks.specs.Checked.{checked};
 ghost use Rattle.exec_switch.specs.Answer.{answer_or, AnswersOfObjects, AnswersOfObjectsAndPlaces};
 
 use asyncio::{CallId, ITEMS, OBJECTS, Objects, PLACES, Places, Value};
-use exec_futures::making::{allocate_call_id, make_coroutine, make_gather, push_pending_future, settled_awaitable};
+use exec_futures::making::{
+    allocate_call_id, make_coroutine, make_gather, push_pending_future, settled_awaitable,
+};
 use exec_switch::answer::{Answer, Refusal};
 use rows::tables::load_header;
 use scheduler::tasks::take_pending_external;
