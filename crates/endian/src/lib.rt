@@ -18,7 +18,7 @@ pub fn u16_at(s: &[u8], at: usize) -> u64
     requires { at + 2 ≤ length s.now }
     ensures { (result ≡ le2 s.now at) × (result < 65536) }
 {
-    u16::from_le_bytes(*s[at..].first_chunk().unwrap()) as u64
+    u16::from_le_bytes([s[at], s[at + 1]]) as u64
 }
 
 // Four bytes from `at` on.
@@ -26,7 +26,7 @@ pub fn u32_at(s: &[u8], at: usize) -> u64
     requires { at + 4 ≤ length s.now }
     ensures { (result ≡ le4 s.now at) × (result < 2 ^ 32) }
 {
-    u32::from_le_bytes(*s[at..].first_chunk().unwrap()) as u64
+    u32::from_le_bytes([s[at], s[at + 1], s[at + 2], s[at + 3]]) as u64
 }
 
 // Eight bytes from `at` on.
@@ -34,5 +34,15 @@ pub fn u64_at(s: &[u8], at: usize) -> u64
     requires { at + 8 ≤ length s.now }
     ensures { result ≡ le8 s.now at }
 {
-    u64::from_le_bytes(*s[at..].first_chunk().unwrap())
+    let row = [
+        s[at],
+        s[at + 1],
+        s[at + 2],
+        s[at + 3],
+        s[at + 4],
+        s[at + 5],
+        s[at + 6],
+        s[at + 7],
+    ];
+    u64::from_le_bytes(row)
 }
