@@ -20,7 +20,8 @@ fn items_below(objects: &Objects, places: &Places, g: HeapId) -> bool
 {
     let first = first_at(objects, g) as usize;
     let count = count_at(objects, g) as usize;
-    (0..count).all(|k| item_at(places, first + k).0 < g.0)
+    // Asked first: most objects have no places, and a range that is empty costs more.
+    count == 0 || (0..count).all(|k| item_at(places, first + k).0 < g.0)
 }
 
 // Of every object.
