@@ -422,7 +422,7 @@ module _ (w : List ℕ) (l : length w ≡ 8) where
   unfolding failed_same same_words zeros awaiter_same option_same value_same error_same stretch_same
   row-failed e = rw (call_below (get_or w 4 0)) (twos _ _ _ _ _ _ _ ∙ sym (by_kind 6 e))
 
-  row_waiting_resting : get_or w 0 0 ≡ 7 → resting_same w ≡ object_row_same w
+  pub row_waiting_resting : get_or w 0 0 ≡ 7 → resting_same w ≡ object_row_same w
   unfolding resting_same same_words zeros awaiter_same option_same value_same error_same stretch_same
   row_waiting_resting e = ones _ _ _ _ _ _ _ ∙ sym (by_kind 7 e)
 
@@ -430,7 +430,7 @@ module _ (w : List ℕ) (l : length w ≡ 8) where
   unfolding awaited_same same_words zeros awaiter_same option_same value_same error_same stretch_same
   row-awaited e = ones _ _ _ _ _ _ _ ∙ sym (by_kind 8 e)
 
-  row_done_resting : get_or w 0 0 ≡ 9 → resting_same w ≡ object_row_same w
+  pub row_done_resting : get_or w 0 0 ≡ 9 → resting_same w ≡ object_row_same w
   unfolding resting_same same_words zeros awaiter_same option_same value_same error_same stretch_same
   row_done_resting e = ones _ _ _ _ _ _ _ ∙ sym (by_kind 9 e)
 
