@@ -11,7 +11,8 @@ use drive_text::Writer;
 use queue::ReadyQueue;
 
 // The record at `from` and its line, which is written at `at`. `number` is the record's. The store is sound, as it is in a session: it is
-// not checked at each record.
+// not checked at each record. Inlined, since a call of its own copies the queue, 1 KB, once more at each record (docs/LOOK-BACK.md, d).
+#[inline(always)]
 pub fn drive_record(
     tasks: &mut [u64],
     objects: &mut [u64],

@@ -1,8 +1,10 @@
--- Numbers in decimal: the equation that the code follows, how many digits there are, and that they read back as the number.
-use Rattle.std.specs.Prelude.{◌≡◌, refl, List, [], ◌∷◌, ◌++◌, ℕ, zero, suc, ◌+◌, ◌-◌, ◌*◌, ◌/◌, ◌%◌, ◌^◌, ◌≤◌, ◌<◌, ltb, length, get_or}
-use Rattle.std.proofs.Common.{sym, ap, ◌∙◌, div-lt_iff_lt-mul, pow-suc, length-append, lt-ltb, le-ltb, ltb-true, ltb-false}
+-- Numbers in decimal: the equation of their digits, how many there are, the array that the code makes of them, and that they read back as the number.
+use Rattle.std.specs.Prelude.{◌≡◌, refl, List, [], ◌∷◌, ◌++◌, ℕ, zero, suc, ◌+◌, ◌-◌, ◌*◌, ◌/◌, ◌%◌, ◌^◌, ◌≤◌, ◌<◌, ltb, length, get_or, take, drop, set}
+use Rattle.std.proofs.Common.{sym, ap, ◌∙◌, add-one, append_assoc, append-nil, div-lt_iff_lt-mul, pow-suc, length-append, length-drop, length-set, take_all, lt-ltb, le-ltb, ltb-true, ltb-false}
 use native.Mathlib.Omega.{arith}
 use Rattle.std.proofs.Math.ListN.{get_or-append}
+use Rattle.std.proofs.lemmas.Grind.{drop-set_at}
+use Rattle.std.proofs.lemmas.List.{drop_all}
 use Rattle.drive_text.specs.OutLaws.{by_test}
 use Rattle.drive_text.specs.Text.{digits, decimal}
 
@@ -47,6 +49,46 @@ digits-few (suc k) n =
 pub decimal-short : (n : ℕ) → length (decimal n) ≤ 20
 unfolding decimal
 decimal-short n = digits-few 20 n
+
+-- ---- written into an array of 20, the last digit first
+
+-- Behind the place i stand the last digits of n; those of rest are not written yet, and have room at i and in front of it.
+pub record WrittenBehind (n rest i : ℕ) (ds : List ℕ) : Type 0 where
+  pub whole : decimal rest ++ drop (suc i) ds ≡ decimal n
+  pub room : rest < 10 ^ suc i
+  pub place : i < 20
+  pub size : length ds ≡ 20
+
+pub written_none : (n : ℕ) {ds : List ℕ} → n < 10 ^ 20 → length ds ≡ 20 → WrittenBehind n n 19 ds
+written_none n {ds} h l = record {
+  whole = rw (drop_all 20 ds (omega (arith, l))) (append-nil (decimal n));
+  room = h;
+  place = omega arith;
+  size = l;
+}
+
+-- one digit more
+pub written_one : {n r i : ℕ} {ds : List ℕ} → 10 ≤ r → r < 10 ^ 20 → WrittenBehind n r i ds → WrittenBehind n (r / 10) (i - 1) (set ds i (48 + r % 10))
+written_one {n} {r} {i = zero} {ds} t h w = let u : r < 10 = w.room in absurd (omega (arith, u))
+written_one {n} {r} {i = suc j} {ds} t h w =
+    let l : suc j < length ds = omega (arith, w.place, w.size) in
+    let p : suc (suc j - 1) ≡ suc j = omega arith in
+    let e : decimal r ≡ decimal (r / 10) ++ ((48 + r % 10) ∷ []) = decimal_large r t h in
+    record {
+      whole = rw (p, drop-set_at ds (suc j) (suc j) (48 + r % 10) refl l, add-one (suc j))
+          (sym (append_assoc (decimal (r / 10)) ((48 + r % 10) ∷ []) (drop (suc (suc j)) ds)) ∙ ap (λ (xs : List ℕ). xs ++ drop (suc (suc j)) ds) (sym e) ∙ w.whole);
+      room = rw p (tenth (suc j) r w.room);
+      place = omega (arith, w.place);
+      size = length-set ds (suc j) (48 + r % 10) ∙ w.size;
+    }
+
+-- the first digit: from its place on the array holds the number
+pub written_all : {n r i : ℕ} {ds : List ℕ} → r < 10 → WrittenBehind n r i ds → take (20 - i) (drop i (set ds i (48 + r))) ≡ decimal n
+written_all {n} {r} {i} {ds} t w =
+    let xs : List ℕ = set ds i (48 + r) in
+    let s : length (drop i xs) ≤ 20 - i = omega (arith, length-drop i xs, length-set ds i (48 + r), w.size) in
+    let l : i < length ds = omega (arith, w.place, w.size) in
+    rw (take_all (20 - i) (drop i xs) s, drop-set_at ds i i (48 + r) refl l, add-one i) (ap (λ (ys : List ℕ). ys ++ drop (suc i) ds) (sym (decimal_small r t)) ∙ w.whole)
 
 -- ---- no zero in front
 

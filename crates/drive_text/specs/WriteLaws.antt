@@ -22,7 +22,7 @@ text_turn bs i h v w = rw (add-one i, take-suc bs i 0 h, ← add-one i) (then v 
 pub text_end : (bs : List ℕ) (i : ℕ) {x y : Out} → i ≤ length bs → length bs ≤ i → Wrote i x y (take i bs) → Wrote (length bs) x y bs
 text_end bs i h g w = at_most h (rw (take_all i bs g) at w)
 
--- ---- a number
+-- ---- a number: its digits one after the other (the code makes them in an array first, TextLaws), and a number after a space
 
 pub one_digit : (n : ℕ) {x y : Out} → n < 10 → Wrote 1 x y ((48 + n) ∷ []) → Wrote 20 x y (decimal n)
 one_digit n h w = rw (decimal_small n h) (at_most (omega arith) w)
@@ -31,6 +31,12 @@ pub more_digits : (n : ℕ) {x y z : Out} → 10 ≤ n → n < 2 ^ 64 → Wrote 
 more_digits n {x} {y} {z} h g v w =
     let e : Wrote 21 x z (decimal n) = rw (decimal_large n h (omega arith)) (then v w) in
     record { emitted = e.emitted; short = decimal-short n }
+
+-- by one text
+pub number_text : (n : ℕ) {t : List ℕ} {x y : Out} → t ≡ decimal n → Wrote (length t) x y t → Wrote 20 x y (decimal n)
+number_text n {t} {x} {y} e w =
+    let d : Wrote (length (decimal n)) x y (decimal n) = rw e at w in
+    at_most (decimal-short n) d
 
 pub spaced : (n : ℕ) {x y z : Out} → Wrote 1 x y (32 ∷ []) → Wrote 20 y z (decimal n) → Wrote 21 x z (field n)
 unfolding field

@@ -32,23 +32,34 @@ impl<'a> Writer<'a> {
         }
     }
 
-    // The bytes of a text.
+    // The bytes of a text. The place is a variable meanwhile: behind `self` each byte would read and write it.
     pub fn put_text(&mut self, text: &[u8])
         ensures { Puts (length text.now) self text.now }
     {
+        let mut at = self.at;
         for &b in text {
-            self.put_byte(b);
+            if at < self.out.len() {
+                self.out[at] = b;
+                at += 1;
+            }
         }
+        self.at = at;
     }
 
-    // A number in decimal.
+    // A number in decimal. Its digits are made in an array, from the last one on, and written as one text.
     pub fn put_decimal(&mut self, n: u64)
         ensures { Puts 20 self (decimal n) }
     {
-        if n >= 10 {
-            self.put_decimal(n / 10);
+        let mut digits = [0u8; 20];
+        let mut first: usize = 19;
+        let mut rest = n;
+        while rest >= 10 {
+            digits[first] = 48 + (rest % 10) as u8;
+            rest /= 10;
+            first -= 1;
         }
-        self.put_byte(48 + (n % 10) as u8);
+        digits[first] = 48 + rest as u8;
+        self.put_text(&digits[first..]);
     }
 
     // A number after a space.
